@@ -1,0 +1,4 @@
+-- Laws for the proofs of this crate and of those above it.
+pub mod Laws
+pub mod Words
+pub mod Scan
