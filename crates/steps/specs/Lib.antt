@@ -1,0 +1,5 @@
+pub mod Record
+pub mod Shape
+pub mod Check
+pub mod Spent
+pub mod Step
