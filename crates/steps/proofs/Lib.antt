@@ -2,3 +2,5 @@
 pub mod Situations
 pub mod Places
 pub mod Checks
+pub mod Spent
+pub mod Cases
