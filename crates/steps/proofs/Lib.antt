@@ -1,2 +1,4 @@
 -- Laws for the proofs of this crate and of those above it, and its theorems.
 pub mod Situations
+pub mod Places
+pub mod Checks
