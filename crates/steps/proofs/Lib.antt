@@ -3,3 +3,5 @@ pub mod Tests
 pub mod Passed
 pub mod Refusals
 pub mod Situations
+pub mod Places
+pub mod Checks
