@@ -4,4 +4,5 @@ pub mod Cases
 pub mod Places
 pub mod Checks
 pub mod Refusals
+pub mod Exact
 pub mod Situations
