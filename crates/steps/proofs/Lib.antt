@@ -1,4 +1,7 @@
 -- Laws for the proofs of this crate and of those above it, and its theorems.
-pub mod Situations
+pub mod Tests
+pub mod Cases
 pub mod Places
 pub mod Checks
+pub mod Refusals
+pub mod Situations
