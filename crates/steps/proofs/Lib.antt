@@ -5,4 +5,5 @@ pub mod Places
 pub mod Checks
 pub mod Refusals
 pub mod Exact
+pub mod Keeps
 pub mod Situations
