@@ -7,3 +7,4 @@ pub mod Refusals
 pub mod Exact
 pub mod Keeps
 pub mod Situations
+pub mod Unique
