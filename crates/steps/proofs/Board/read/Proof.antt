@@ -9,7 +9,7 @@ use Rattle.cells.specs.Rules.{ownAt}
 use Rattle.cells.proofs.Meaning.{own-inside}
 use Rattle.steps.specs.Step.{numberAt}
 use Rattle.steps.proofs.Checks.{Passed, passed, refused}
-use Rattle.steps.proofs.Cases.{read-own, read-held, read-seen}
+use Rattle.steps.proofs.Ends.{read-own, read-held, read-seen}
 use Rattle.steps.proofs.Board.read.Statement.{statement}
 use Rattle.steps.proofs.Board.read.Tie as tie
 

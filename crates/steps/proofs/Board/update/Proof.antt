@@ -13,7 +13,7 @@ use Rattle.steps.specs.Spent.{reusable}
 use Rattle.steps.specs.Step.{numberAt, viewAt}
 use Rattle.steps.proofs.Checks.{Passed, passed, refused}
 use Rattle.steps.proofs.Spent.{free-inside}
-use Rattle.steps.proofs.Cases.{update-own, update-clash, update-free, update-full}
+use Rattle.steps.proofs.Ends.{update-own, update-clash, update-free, update-full}
 use Rattle.steps.proofs.Board.update.Statement.{statement}
 use Rattle.steps.proofs.Board.update.Tie as tie
 
