@@ -3,3 +3,4 @@ pub mod Shape
 pub mod Check
 pub mod Spent
 pub mod Step
+pub mod Situations
