@@ -1,2 +1,5 @@
 pub mod Basics
 pub mod Facts
+pub mod Leave
+pub mod Link
+pub mod Seen
