@@ -1,4 +1,4 @@
--- Tests and case splits: what `&&` and `||` say, a split for each test of a step, and what a search of places finds.
+-- Case splits, what `&&` and `||` say beside the steps' own laws of them, and what a search of places finds.
 -- Assumes nothing.
 use mathlib.Core.Path.{_≡_, refl, sym, ap, _∙_}
 use mathlib.Core.Logic.{_⊎_, inl, inr}
@@ -11,30 +11,16 @@ use native.Mathlib.Omega.{arith}
 use lib.Dec.{eqb}
 use lib.ListN.{length, getD}
 use borrow.Author.Tests.{eqb-true, eqb-false}
-use Rattle.cells.specs.declared.Found.{Found}
 use Rattle.steps.specs.declared.Place.{Place}
 use Rattle.steps.specs.Record.{idlePlace}
 use Rattle.steps.specs.Spent.{hasPlace}
-use Rattle.steps.specs.Step.{Outcome, onFound}
+use Rattle.steps.proofs.Tests.{two}
 
 -- CASES
 
 pub cases {ℓ} : {A B : Type 0} {C : Type ℓ} → A ⊎ B → (A → C) → (B → C) → C
 cases (inl a) f g = f a
 cases (inr b) f g = g b
-
-pub by-test {ℓ} : {A : Type 0} (P : A → Type ℓ) (t : Bool) {x y : A} → (t ≡ true → P x) → (t ≡ false → P y) → P (cond t x y)
-by-test P true f g = f refl
-by-test P false f g = g refl
-
-pub by-found {ℓ} : (P : Outcome → Type ℓ) (o : Found) {f : ℕ → Outcome} {x : Outcome}
-    → ((i : ℕ) → o ≡ Found.At i → P (f i)) → (o ≡ Found.Nothing → P x) → P (onFound o f x)
-by-found P (Found.At i) g h = g i refl
-by-found P Found.Nothing g h = h refl
-
-pub two : (t : Bool) → (t ≡ true) ⊎ (t ≡ false)
-two true = inl refl
-two false = inr refl
 
 pub clash : {t : Bool} {A : Type 0} → t ≡ true → t ≡ false → A
 clash a b = absurd (true≢false (sym a ∙ b))
@@ -63,17 +49,6 @@ pos zero h = absurd (not-suc-le-zero h)
 pos (suc m) h = (m, omega arith)
 
 -- TESTS
-
-pub both : {a b : Bool} → a ≡ true → b ≡ true → (a && b) ≡ true
-both p q = cc
-
-pub and-left : (a b : Bool) → (a && b) ≡ true → a ≡ true
-and-left true b e = refl
-and-left false b e = e
-
-pub and-right : (a b : Bool) → (a && b) ≡ true → b ≡ true
-and-right true b e = e
-and-right false b e = absurd (false≢true e)
 
 pub and-false : (a b : Bool) → (a && b) ≡ false → a ≡ true → b ≡ false
 and-false true b e h = e

@@ -16,7 +16,8 @@ use Rattle.cells.specs.Rules.{hasCell, mine, ownAt, foreignOf, visible, clashes
 use Rattle.cells.proofs.Meaning.{own-found, own-none}
 use Rattle.steps.specs.declared.Place.{Place}
 use Rattle.steps.specs.Spent.{hasPlace, keepsAt, spent}
-use Rattle.history.proofs.Basics.{cases, clash, both, and-left, and-right, or-cases, or-left, or-right}
+use Rattle.steps.proofs.Tests.{and-both as both, and-left, and-right}
+use Rattle.history.proofs.Basics.{cases, clash, or-cases, or-left, or-right}
 
 abbrev pub cellAt : List Cell → ℕ → Cell
 cellAt cs i = getD cs i noCell

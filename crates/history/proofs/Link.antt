@@ -19,7 +19,8 @@ use Rattle.steps.specs.declared.Board.{Board}
 use Rattle.steps.specs.Record.{allPlaces, mostCells, mostStarts, isIdle, idlePlace, placeAt}
 use Rattle.steps.specs.Shape.{held, hasNumber, distinct, each, counted, inShape}
 use Rattle.history.specs.History.{Event, write, lastWrite, Run, Ledger, put}
-use Rattle.history.proofs.Basics.{by-test, clash, and-left, and-right, or-left, or-right, none-some}
+use Rattle.steps.proofs.Tests.{by-test, and-left, and-right}
+use Rattle.history.proofs.Basics.{clash, or-left, or-right, none-some}
 use Rattle.history.proofs.Facts.{cellAt, Draft, Version}
 use Rattle.history.proofs.Leave.{wroteAt}
 

@@ -19,10 +19,10 @@ use Rattle.cells.proofs.Meaning.{Some, Newest, has-found, some-has, seen-means}
 use Rattle.steps.specs.declared.State.{State}
 use Rattle.steps.specs.declared.Board.{Board}
 use Rattle.steps.specs.Record.{allPlaces, placeAt}
-use Rattle.steps.specs.Spent.{reusable, heldBack}
 use Rattle.steps.specs.Step.{Outcome, readAs, updatedAs, numberAt, viewAt}
 use Rattle.history.specs.History.{Ledger, Wrote, lastWrite, sees, leave, holds, Contested}
-use Rattle.history.proofs.Basics.{cases, by-test, by-found, clash, none?, none-some, pos}
+use Rattle.steps.proofs.Passed.{on-read, on-update}
+use Rattle.history.proofs.Basics.{cases, clash, none?, none-some, pos}
 use Rattle.history.proofs.Facts.{cellAt, Draft, in-cells, own-draft, no-draft, visible-facts, visible-of, blocks-facts, foreign-blocks, later-blocks}
 use Rattle.history.proofs.Leave.{wroteAt, leave-none, leave-last}
 use Rattle.history.proofs.Link.{busy, wrote, Live, Shows, Linked, writer-busy, same-place, own-cell}
@@ -111,35 +111,27 @@ module _ (b : Board) (ws : List ℕ) (L : Ledger) (𝓛 : Linked b (cellsOf ws) 
   cs = cellsOf ws
 
   abbrev Shown : ℕ → ℕ → Outcome → Type 0
-  Shown p k o = (v : ℕ) → o .number ≡ 0 → o .value ≡ v → v ≡ sees L p k
+  Shown p k o = o .number ≡ 0 → o .value ≡ sees L p k
 
   -- a read that is answered
   pub read-right : (p k : ℕ) → p < allPlaces → placeAt b p .state ≡ State.Open → Shown p k (readAs b ws p k)
-  unfolding readAs
   read-right p k l o =
-      by-found (Shown p k) (ownAt k (numberAt b p) cs)
-      (λ i f v _ e.
-      let y = own-cell b cs L 𝓛 p i k l (open-busy b cs L 𝓛 p o) (own-draft (numberAt b p) k cs i f) in
-      sym e ∙ rw y)
-      (λ n. by-test (Shown p k) (heldBack k (numberAt b p) (b .places) cs)
-      (λ _ v z _. absurd (omega arith))
-      (λ _ v _ e. sym e ∙ live-read b cs L 𝓛 (viewAt b p) (inr (p, l, o, refl)) k
-      ∙ rw (not-written b cs L 𝓛 p k l n, 𝓛 .placed p l .view)))
+      on-read (Shown p k) b ws p k
+      (λ i f _. let y = own-cell b cs L 𝓛 p i k l (open-busy b cs L 𝓛 p o) (own-draft (numberAt b p) k cs i f) in rw y)
+      (λ _ _ z. absurd (omega arith))
+      (λ n _ _. live-read b cs L 𝓛 (viewAt b p) (inr (p, l, o, refl)) k ∙ rw (not-written b cs L 𝓛 p k l n, 𝓛 .placed p l .view))
 
   abbrev Exact : ℕ → ℕ → Outcome → Type 0
   Exact p k o = (o .number ≡ numberOf Answer.Conflict) ↔ Contested L p k
 
   pub conflict-exact : (p k new : ℕ) → p < allPlaces → placeAt b p .state ≡ State.Open → wrote L p k ≡ none
       → Exact p k (updatedAs b ws p k new)
-  unfolding updatedAs
   conflict-exact p k new l o w =
       let h = open-busy b cs L 𝓛 p o in
-      by-found (Exact p k) (ownAt k (numberAt b p) cs)
+      let calm : conflict k (numberAt b p) (viewAt b p) cs ≡ false → Contested L p k → ⊥ =
+          λ t c. clash (contested-conflict b cs L 𝓛 p k l h c) t in
+      on-update (Exact p k) b ws p k new
       (λ i f. none-some (wrote L p k) (cellAt cs i .value) w (own-cell b cs L 𝓛 p i k l h (own-draft (numberAt b p) k cs i f)))
-      (λ n. by-test (Exact p k) (conflict k (numberAt b p) (viewAt b p) cs)
-      (λ t. (λ _. conflict-contested b cs L 𝓛 p k l t, λ _. refl))
-      (λ t.
-      let z : Contested L p k → ⊥ = λ c. clash (contested-conflict b cs L 𝓛 p k l h c) t in
-      by-found (Exact p k) (reusable (b .places) cs)
-      (λ i _. (λ e. absurd (omega arith), λ c. absurd (z c)))
-      (λ _. (λ e. absurd (omega arith), λ c. absurd (z c)))))
+      (λ n t. (λ _. conflict-contested b cs L 𝓛 p k l t, λ _. refl))
+      (λ n t i _. (λ e. absurd (omega arith), λ c. absurd (calm t c)))
+      (λ n t _. (λ e. absurd (omega arith), λ c. absurd (calm t c)))
