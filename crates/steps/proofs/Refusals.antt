@@ -13,7 +13,7 @@ use Rattle.steps.specs.declared.State.{State}
 use Rattle.steps.specs.declared.Board.{Board}
 use Rattle.steps.specs.Record.{placeAt}
 use Rattle.steps.specs.Step.{Outcome, answered, withPlace, inState, done, step}
-use Rattle.steps.proofs.Passed.{Passed, on-step, on-read, on-update, open-of}
+use Rattle.steps.proofs.Cases.{Cleared, on-step, on-read, on-update, open-of}
 
 -- value 0, the words and both counts as before; and the whole record as before, but where the number is 9: there the caller's place, and
 -- no other, goes from open to spoiled, its number and view as they were
@@ -59,7 +59,7 @@ module _ (b : Board) (ws : List ℕ) where
         spoiled-after = λ _. refl;
       }
 
-  passed : (call : Call) → Passed b (length ws) call → Refusal (placeOf call) (done b ws call)
+  passed : (call : Call) → Cleared b (length ws) call → Refusal (placeOf call) (done b ws call)
   passed (Call.Start p) g = ok p _ refl
   passed (Call.Read p key) g =
       on-read (Refusal p) b ws p key (λ i e. ok p _ refl) (λ n e. plain p Answer.Prepared (λ c. omega arith) refl) (λ n e. ok p _ refl)

@@ -11,7 +11,7 @@ use native.Mathlib.Omega.{arith}
 use lib.ListN.{length, getD, set}
 use Rattle.records.specs.declared.Call.{Call}
 use Rattle.records.specs.declared.Answer.{Answer}
-use Rattle.records.specs.Answers.{numberOf, valueOf, placeOf}
+use Rattle.records.specs.Answers.{numberOf, valueOf}
 use Rattle.cells.specs.declared.Found.{Found}
 use Rattle.cells.specs.Cells.{noCell, cellsOf, withCells}
 use Rattle.cells.specs.Rules.{ownAt, newestSeen, conflict, valued}
@@ -25,7 +25,7 @@ use Rattle.steps.specs.Table.{stateAt}
 use Rattle.steps.proofs.Tests.{by-test}
 
 -- no check refuses
-pub record Passed (b : Board) (words : ℕ) (call : Call) : Type 0 where
+pub record Cleared (b : Board) (words : ℕ) (call : Call) : Type 0 where
   pub board : givenBoard b words ≡ false
   pub place : givenPlace call ≡ false
   pub busy : givenBusy (stateAt b call) call ≡ false
@@ -43,7 +43,7 @@ module _ {ℓ} (P : Outcome → Type ℓ) (b : Board) (ws : List ℕ) where
   abbrev Checked : Call → Answer → Type ℓ
   Checked call a = P (unlessRefused a b ws (done b ws call))
 
-  pub on-step : (call : Call) → ((a : Answer) → IsCheck a → P (answered a b ws)) → (Passed b (length ws) call → P (done b ws call))
+  pub on-step : (call : Call) → ((a : Answer) → IsCheck a → P (answered a b ws)) → (Cleared b (length ws) call → P (done b ws call))
       → P (step b ws call)
   unfolding step checkOf placeCheck
   on-step call no′ go =
