@@ -6,3 +6,4 @@ pub mod Seen
 pub mod Write
 pub mod Turn
 pub mod Close
+pub mod Fair

@@ -21,7 +21,7 @@ use Rattle.steps.specs.declared.Board.{Board}
 use Rattle.steps.specs.Record.{allPlaces, placeAt}
 use Rattle.steps.specs.Step.{Outcome, readAs, updatedAs, numberAt, viewAt}
 use Rattle.history.specs.History.{Ledger, Wrote, lastWrite, sees, leave, holds, Contested}
-use Rattle.steps.proofs.Passed.{on-read, on-update}
+use Rattle.steps.proofs.Cases.{on-read, on-update}
 use Rattle.history.proofs.Basics.{cases, clash, none?, none-some, pos}
 use Rattle.history.proofs.Facts.{cellAt, Draft, in-cells, own-draft, no-draft, visible-facts, visible-of, blocks-facts, foreign-blocks, later-blocks}
 use Rattle.history.proofs.Leave.{wroteAt, leave-none, leave-last}
