@@ -7,3 +7,4 @@ pub mod Write
 pub mod Turn
 pub mod Close
 pub mod Fair
+pub mod Steps
