@@ -1,8 +1,8 @@
 -- Case splits, what `&&` and `||` say beside the steps' own laws of them, and what a search of places finds.
 -- Assumes nothing.
-use mathlib.Core.Path.{_≡_, refl, sym, ap, _∙_}
+use mathlib.Core.Path.{_≡_, refl, sym, _∙_}
 use mathlib.Core.Logic.{_⊎_, inl, inr}
-use mathlib.Core.Bool.{Bool, true, false, cond, not, _&&_, _||_, true≢false, false≢true}
+use mathlib.Core.Bool.{Bool, true, false, _&&_, _||_, true≢false, false≢true}
 use mathlib.Core.List.{List, [], _∷_}
 use mathlib.Core.Option.{Option, none, some}
 use Prim.Native.Nat.{ℕ, zero, suc, _+_, _≤_, _<_}
@@ -14,7 +14,6 @@ use borrow.Author.Tests.{eqb-true, eqb-false}
 use Rattle.steps.specs.declared.Place.{Place}
 use Rattle.steps.specs.Record.{idlePlace}
 use Rattle.steps.specs.Spent.{hasPlace}
-use Rattle.steps.proofs.Tests.{two}
 
 -- CASES
 

@@ -2,9 +2,9 @@
 -- Assumes nothing.
 use mathlib.Core.Path.{_≡_, refl, sym, ap, _∙_, subst}
 use mathlib.Core.Logic.{_⊎_, inl, inr}
-use mathlib.Core.Bool.{Bool, true, false}
+use mathlib.Core.Bool.{true, false}
 use mathlib.Core.List.{List, [], _∷_, map, _++_}
-use mathlib.Core.Option.{Option, none, some}
+use mathlib.Core.Option.{none, some}
 use Prim.Native.Nat.{ℕ, _+_, _≤_, _<_}
 use native.Mathlib.Omega.{arith}
 use lib.ListN.{length, getD, set, length-set, length-append, List·getD-map, List·getD-append}
@@ -80,7 +80,7 @@ module _ (b : Board) (cs : List Cell) (L : Ledger) (𝓛 : Linked b cs L) (p : �
         let ec′ : cellAt cs j .commit ≡ 0 = sym (ap (λ (c : Cell). c .commit) s) ∙ ec in
         let r = 𝓛 .drafts j n ek′ ec′ in
         let d : r .0 ≡ p → ⊥ =
-            λ e. clash (draft-own (cellAt cs j) T n (record { word = ek′; commit = ec′; number = sym (r .2) ∙ ap (λ (x : ℕ). placeAt b x .number) e })) f in (
+        λ e. clash (draft-own (cellAt cs j) T n (record { word = ek′; commit = ec′; number = sym (r .2) ∙ ap (λ (x : ℕ). placeAt b x .number) e })) f in (
           r .0,
           r .1,
           ap (λ (x : Place). x .number) (at-q (r .0) d) ∙ r .2 ∙ sym (ap (λ (c : Cell). c .number) s),

@@ -1,8 +1,8 @@
 -- The rules' tests of a cell, as equations and orders of its words, and back.
 -- Assumes nothing.
-use mathlib.Core.Path.{_≡_, refl, sym, ap, _∙_}
+use mathlib.Core.Path.{_≡_, sym, ap, _∙_}
 use mathlib.Core.Logic.{_⊎_, inl, inr}
-use mathlib.Core.Bool.{Bool, true, false, not, _&&_, _||_}
+use mathlib.Core.Bool.{true, false, not, _&&_}
 use mathlib.Core.List.{List, [], _∷_}
 use Prim.Native.Nat.{ℕ, zero, suc, _+_, _≤_, _<_}
 use native.Mathlib.Omega.{arith}
@@ -12,7 +12,7 @@ use borrow.Author.Tests.{ltb-true, leb-true, eqb-true, eqb-false, not-true, lt-l
 use Rattle.cells.specs.declared.Cell.{Cell}
 use Rattle.cells.specs.declared.Found.{Found}
 use Rattle.cells.specs.Cells.{noCell, empty, ofKey, committed, own, foreign, seenBy}
-use Rattle.cells.specs.Rules.{hasCell, mine, ownAt, foreignOf, visible, clashes, blocks, newer, between}
+use Rattle.cells.specs.Rules.{hasCell, mine, ownAt, visible, clashes, blocks, newer, between}
 use Rattle.cells.proofs.Meaning.{own-found, own-none}
 use Rattle.steps.specs.declared.Place.{Place}
 use Rattle.steps.specs.Spent.{hasPlace, keepsAt, spent}

@@ -1,18 +1,19 @@
 -- On the history alone: where every accepted update passed the conflict test, committed transactions that overlapped wrote no key in
 -- common; and every answered read showed what its transaction sees.
 -- Assumes nothing.
-use mathlib.Core.Path.{_≡_, refl, sym, ap, _∙_, subst}
+use mathlib.Core.Path.{_≡_, refl, sym, _∙_, subst}
 use mathlib.Core.Logic.{_⊎_, inl, inr}
 use mathlib.Core.List.{List, [], _∷_, _++_}
-use mathlib.Core.Option.{Option, none, some, Option·getD}
+use mathlib.Core.Option.{none, Option·getD}
 use Prim.Native.Nat.{ℕ, _+_, _≤_, _<_}
 use native.Mathlib.Nat.{not-suc-le-zero}
 use native.Mathlib.Omega.{arith}
-use lib.ListN.{length, getD, take, length-append, List·getD-append}
+use lib.ListN.{length, take, length-append, List·getD-append}
 use lib.Seq.{getD-append-seam, take-append-le}
 use Rattle.steps.specs.declared.State.{State}
 use Rattle.steps.specs.Record.{allPlaces}
-use Rattle.history.specs.History.{Event, read, write, lastWrite, Wrote, Run, nobody, doing, turned, Done, nothing, Ledger, newLedger, doneAt, begun, ended, put, tick, opened, leave, sees, Contested, Overlapped}
+use Rattle.history.specs.History.{Event, read, write, lastWrite, Wrote, Run, nobody, doing, turned, Done, nothing, Ledger, newLedger}
+use Rattle.history.specs.History.{doneAt, begun, ended, put, tick, opened, leave, sees, Contested, Overlapped}
 use Rattle.history.proofs.Basics.{cases, eq?, lt?, none-some}
 use Rattle.history.proofs.Link.{put-same, put-other, write-other}
 
@@ -146,15 +147,15 @@ module _ (L : Ledger) (f : Fair L) where
   pub fair-start : (p : ℕ) → Fair (opened L (put (L .at) p (begun L)))
   fair-start p =
       let g = fair-put L f p (begun L)
-          (record {
-            seen = omega arith;
-            begun = omega arith;
-            before = f .ended;
-            after = λ i h l. absurd (omega arith);
-            past = λ i k h l w w′. no-write k w′;
-            others = λ q k h d w w′. no-write k w′;
-            told = tt;
-          }) in
+      (record {
+        seen = omega arith;
+        begun = omega arith;
+        before = f .ended;
+        after = λ i h l. absurd (omega arith);
+        past = λ i k h l w w′. no-write k w′;
+        others = λ q k h d w w′. no-write k w′;
+        told = tt;
+      }) in
       record {
         runs = λ q l.
             let r = g .runs q l in

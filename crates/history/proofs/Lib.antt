@@ -8,3 +8,4 @@ pub mod Turn
 pub mod Close
 pub mod Fair
 pub mod Steps
+pub mod Demand

@@ -1,31 +1,31 @@
 -- What a linked board answers to a read, what it holds, and when it refuses an update for conflict.
 -- Assumes nothing.
 use mathlib.Core.Path.{_≡_, refl, sym, ap, _∙_}
-use mathlib.Core.Logic.{_⊎_, inl, inr, _↔_}
-use mathlib.Core.Bool.{Bool, true, false}
+use mathlib.Core.Logic.{inl, inr, _↔_}
+use mathlib.Core.Bool.{true, false}
 use mathlib.Core.List.{List}
-use mathlib.Core.Option.{Option, none, some, Option·getD}
+use mathlib.Core.Option.{none}
 use Prim.Native.Nat.{ℕ, _+_, _≤_, _<_}
 use native.Mathlib.Omega.{arith}
-use lib.ListN.{length, getD, take}
+use lib.ListN.{length, take}
 use lib.Seq.{take-length}
 use Rattle.records.specs.declared.Answer.{Answer}
 use Rattle.records.specs.Answers.{numberOf}
 use Rattle.cells.specs.declared.Cell.{Cell}
 use Rattle.cells.specs.declared.Found.{Found}
-use Rattle.cells.specs.Cells.{noCell, cellsOf}
+use Rattle.cells.specs.Cells.{cellsOf}
 use Rattle.cells.specs.Rules.{ownAt, visible, newestSeen, blocks, conflict}
-use Rattle.cells.proofs.Meaning.{Some, Newest, has-found, some-has, seen-means}
+use Rattle.cells.proofs.Meaning.{Newest, has-found, some-has, seen-means}
 use Rattle.steps.specs.declared.State.{State}
 use Rattle.steps.specs.declared.Board.{Board}
 use Rattle.steps.specs.Record.{allPlaces, placeAt}
 use Rattle.steps.specs.Step.{Outcome, readAs, updatedAs, numberAt, viewAt}
-use Rattle.history.specs.History.{Ledger, Wrote, lastWrite, sees, leave, holds, Contested}
+use Rattle.history.specs.History.{Ledger, sees, leave, Contested}
 use Rattle.steps.proofs.Cases.{on-read, on-update}
 use Rattle.history.proofs.Basics.{cases, clash, none?, none-some, pos}
-use Rattle.history.proofs.Facts.{cellAt, Draft, in-cells, own-draft, no-draft, visible-facts, visible-of, blocks-facts, foreign-blocks, later-blocks}
+use Rattle.history.proofs.Facts.{cellAt, in-cells, own-draft, no-draft, visible-facts, visible-of, blocks-facts, foreign-blocks, later-blocks}
 use Rattle.history.proofs.Leave.{wroteAt, leave-none, leave-last}
-use Rattle.history.proofs.Link.{busy, wrote, Live, Shows, Linked, writer-busy, same-place, own-cell}
+use Rattle.history.proofs.Link.{busy, wrote, Live, Linked, writer-busy, same-place, own-cell}
 
 module _ (b : Board) (cs : List Cell) (L : Ledger) (𝓛 : Linked b cs L) where
   -- WHAT A LIVE VIEW READS IS WHAT THE FIRST w COMMITTED LEAVE
@@ -98,7 +98,7 @@ module _ (b : Board) (cs : List Cell) (L : Ledger) (𝓛 : Linked b cs L) where
       (λ u.
       let r = 𝓛 .drafted (u .0) k (u .3 .0) (u .1) (u .3 .1) in
       let n : placeAt b (u .0) .number ≡ placeAt b p .number → ⊥ =
-          λ e. u .2 (same-place b cs L 𝓛 (u .0) p (u .1) l (writer-busy b cs L 𝓛 (u .0) k (u .3 .0) (u .1) (u .3 .1)) h e) in
+      λ e. u .2 (same-place b cs L 𝓛 (u .0) p (u .1) l (writer-busy b cs L 𝓛 (u .0) k (u .3 .0) (u .1) (u .3 .1)) h e) in
       blocked p k (r .0) (r .1 .word) (foreign-blocks (cellAt cs (r .0)) k (numberAt b p) (viewAt b p) (numberAt b (u .0)) (r .1) n))
       (λ u.
       let r = 𝓛 .kept (b .commits) (inl refl) (u .0) k (u .3 .0) (omega (arith, 𝓛 .counted, u .2)) (u .3 .1) in
@@ -129,7 +129,7 @@ module _ (b : Board) (ws : List ℕ) (L : Ledger) (𝓛 : Linked b (cellsOf ws) 
   conflict-exact p k new l o w =
       let h = open-busy b cs L 𝓛 p o in
       let calm : conflict k (numberAt b p) (viewAt b p) cs ≡ false → Contested L p k → ⊥ =
-          λ t c. clash (contested-conflict b cs L 𝓛 p k l h c) t in
+      λ t c. clash (contested-conflict b cs L 𝓛 p k l h c) t in
       on-update (Exact p k) b ws p k new
       (λ i f. none-some (wrote L p k) (cellAt cs i .value) w (own-cell b cs L 𝓛 p i k l h (own-draft (numberAt b p) k cs i f)))
       (λ n t. (λ _. conflict-contested b cs L 𝓛 p k l t, λ _. refl))

@@ -2,22 +2,20 @@
 --     step-links, step-fair     for any call
 --     note-plain                a refusal but CONFLICT leaves no trace
 -- Assumes nothing.
-use mathlib.Core.Path.{_≡_, refl, sym, ap, _∙_, subst}
-use mathlib.Core.Logic.{_⊎_, inl, inr}
-use mathlib.Core.Bool.{Bool, true, false, not, false≢true}
+use mathlib.Core.Path.{_≡_, refl, sym, ap, _∙_}
+use mathlib.Core.Logic.{inl, inr}
+use mathlib.Core.Bool.{true, false, not, false≢true}
 use mathlib.Core.List.{List, map}
-use mathlib.Core.Option.{Option, some}
-use Prim.Native.Nat.{ℕ, _+_, _≤_, _<_}
+use Prim.Native.Nat.{ℕ, _+_, _<_}
 use native.Mathlib.Omega.{arith}
-use lib.ListN.{length, getD, set}
+use lib.ListN.{length, set}
 use borrow.Author.Tests.{leb-false, eqb-true, not-false, ne-eqb}
 use Rattle.records.specs.declared.Call.{Call}
 use Rattle.records.specs.declared.Answer.{Answer}
 use Rattle.records.specs.Answers.{numberOf, valueOf}
 use Rattle.cells.specs.declared.Cell.{Cell}
-use Rattle.cells.specs.declared.Found.{Found}
-use Rattle.cells.specs.Cells.{noCell, cellsOf, withCells, empty}
-use Rattle.cells.specs.Rules.{valued, conflict}
+use Rattle.cells.specs.Cells.{cellsOf, empty}
+use Rattle.cells.specs.Rules.{valued}
 use Rattle.cells.proofs.Words.{cells-with}
 use Rattle.cells.proofs.Meaning.{Lowest, lowest-found, own-found}
 use Rattle.steps.specs.declared.State.{State}
@@ -25,15 +23,15 @@ use Rattle.steps.specs.declared.Board.{Board}
 use Rattle.steps.specs.Record.{allPlaces, isIdle, placeAt}
 use Rattle.steps.specs.Shape.{inShape}
 use Rattle.steps.specs.Spent.{spent, free, reusable}
-use Rattle.steps.specs.Step.{Outcome, answered, done, draft, numberAt, viewAt, readAs, updatedAs, step}
-use Rattle.steps.proofs.Cases.{Cleared, IsCheck, on-step, on-read, on-update, open-of}
+use Rattle.steps.specs.Step.{Outcome, answered, done, draft, numberAt, readAs, updatedAs, step}
+use Rattle.steps.proofs.Cases.{Cleared, on-step, on-read, on-update, open-of}
 use Rattle.steps.proofs.Keeps.{keeps-shape}
-use Rattle.history.specs.History.{Ledger, tick, accept, refuse, note, Contested}
+use Rattle.history.specs.History.{Ledger, tick, accept, refuse, note, sees}
 use Rattle.history.proofs.Basics.{cases, clash, or-cases}
 use Rattle.history.proofs.Facts.{cellAt, Draft, own-draft, no-draft, spent-facts}
-use Rattle.history.proofs.Link.{busy, Live, Linked, shape-numbers, own-cell}
+use Rattle.history.proofs.Link.{busy, Linked, shape-numbers, own-cell}
 use Rattle.history.proofs.Seen.{open-busy, read-right, contested-conflict}
-use Rattle.history.proofs.Write.{Successor, spent-successor, write-links}
+use Rattle.history.proofs.Write.{spent-successor, write-links}
 use Rattle.history.proofs.Turn.{tick-links, read-links, turn-links, start-links}
 use Rattle.history.proofs.Close.{commit-links, rollback-links}
 use Rattle.history.proofs.Fair.{Fair, fair-tick, fair-start, fair-turn, fair-read, fair-rollback, fair-write, fair-commit}
@@ -95,13 +93,13 @@ module _ (b : Board) (ws : List ℕ) (L : Ledger) (𝓛 : Linked b (cellsOf ws) 
 
   -- the lowest empty or spent cell
   free-links : (p k v : ℕ) → p < allPlaces → placeAt b p .state ≡ State.Open
-      → Linked b cs L → (i : ℕ) → Lowest (free (b .places) cs) cs i → ((j : ℕ) → Draft (cellAt cs j) (numberAt b p) k → ⊥)
+      → (i : ℕ) → Lowest (free (b .places) cs) cs i → ((j : ℕ) → Draft (cellAt cs j) (numberAt b p) k → ⊥)
       → Linked b (set cs i (draft k v (numberAt b p))) (accept L (Call.Update p k v) 0)
   unfolding accept
-  free-links p k v l o _ i f none =
+  free-links p k v l o i f none =
       let h = or-cases (empty (cellAt cs i)) (spent (b .places) cs (cellAt cs i)) (f .passes) in
       let blank : (j : ℕ) → empty (cellAt cs i) ≡ true → cellAt cs i .word ≡ j + 1 → ⊥ =
-          λ j e a. let z : cellAt cs i .word ≡ 0 = eqb-true _ _ e in omega arith in
+      λ j e a. let z : cellAt cs i .word ≡ 0 = eqb-true _ _ e in omega arith in
       write-links b cs L 𝓛 p k v i l o (f .inside)
       (λ t j d. cases h
       (λ e. absurd (blank j e (d .word)))
@@ -131,7 +129,7 @@ module _ (b : Board) (ws : List ℕ) (L : Ledger) (𝓛 : Linked b (cellsOf ws) 
       (λ n t s. turn-links b cs L 𝓛 p State.Spoiled l spoiled≢idle spoiled≢open (shape-numbers _ _ s))
       (λ n t i f s.
       rw (cells-with ws (set cs i (draft k v (numberAt b p))))
-      (free-links p k v l o 𝓛 i (lowest-found (free (b .places) cs) cs i f) (λ j d. no-draft (numberAt b p) k cs j n d)))
+      (free-links p k v l o i (lowest-found (free (b .places) cs) cs i f) (λ j d. no-draft (numberAt b p) k cs j n d)))
       (λ n t f. refused (Call.Update p k v) Answer.Full (λ e. omega arith) (λ e. omega arith))
 
   read-kept : (p k : ℕ) → Kept (Call.Read p k) (readAs b ws p k)
@@ -147,9 +145,9 @@ module _ (b : Board) (ws : List ℕ) (L : Ledger) (𝓛 : Linked b (cellsOf ws) 
   unfolding accept
   done-links (Call.Start p) g s =
       start-links b cs L 𝓛 p (leb-false _ _ (g .place)) (idle-of _ (not-false _ (g .busy))) (shape-numbers _ _ s)
-  done-links (Call.Read p k) g = read-kept p k
-  done-links (Call.Update p k v) g =
-      update-links p k v (leb-false _ _ (g .place)) (open-of (placeAt b p .state) (g .idle) (g .spoiled) (g .held))
+  done-links (Call.Read p k) g s = read-kept p k s
+  done-links (Call.Update p k v) g s =
+      update-links p k v (leb-false _ _ (g .place)) (open-of (placeAt b p .state) (g .idle) (g .spoiled) (g .held)) s
   done-links (Call.Prepare p) g s =
       turn-links b cs L 𝓛 p State.Prepared (leb-false _ _ (g .place)) prepared≢idle prepared≢open (shape-numbers _ _ s)
   done-links (Call.Commit p) g s =
@@ -186,7 +184,7 @@ module _ (b : Board) (ws : List ℕ) (L : Ledger) (𝓛 : Linked b (cellsOf ws) 
     read-fair : (p k : ℕ) → p < allPlaces → placeAt b p .state ≡ State.Open → StaysFair (Call.Read p k) (readAs b ws p k)
     unfolding accept
     read-fair p k l o =
-        on-read (λ (x : Outcome). (x .number ≡ 0 → x .value ≡ Rattle.history.specs.History.sees L p k) → StaysFair (Call.Read p k) x) b ws p k
+        on-read (λ (x : Outcome). (x .number ≡ 0 → x .value ≡ sees L p k) → StaysFair (Call.Read p k) x) b ws p k
         (λ i e r. fair-read L f p k _ l (r refl))
         (λ n t r. refused-fair (Call.Read p k) Answer.Prepared (λ e. omega arith) (λ e. omega arith))
         (λ n t r. fair-read L f p k _ l (r refl))

@@ -1,13 +1,13 @@
 -- A call that changes nothing, an answered read, a change of state and a start keep the link.
 -- Assumes nothing.
 use mathlib.Core.Path.{_≡_, refl, sym, ap, _∙_}
-use mathlib.Core.Logic.{_⊎_, inl, inr}
-use mathlib.Core.Bool.{Bool, true, false}
-use mathlib.Core.List.{List, []}
-use mathlib.Core.Option.{Option, none, some}
-use Prim.Native.Nat.{ℕ, _+_, _≤_, _<_}
+use mathlib.Core.Logic.{inl, inr}
+use mathlib.Core.Bool.{true}
+use mathlib.Core.List.{List}
+use mathlib.Core.Option.{none, some}
+use Prim.Native.Nat.{ℕ, _+_, _<_}
 use native.Mathlib.Omega.{arith}
-use lib.ListN.{length, getD, set, length-set}
+use lib.ListN.{set, length-set}
 use lib.Seq.{getD-set-same, getD-set-other}
 use Rattle.cells.specs.declared.Cell.{Cell}
 use Rattle.steps.specs.declared.State.{State}
@@ -18,7 +18,7 @@ use Rattle.steps.specs.Shape.{held, distinct}
 use Rattle.steps.specs.Step.{withPlace, inState}
 use Rattle.history.specs.History.{read, lastWrite, Run, doing, turned, Ledger, begun, put, tick, opened}
 use Rattle.history.proofs.Basics.{cases, eq?, none-some}
-use Rattle.history.proofs.Facts.{cellAt, Draft}
+use Rattle.history.proofs.Facts.{cellAt}
 use Rattle.history.proofs.Link.{put-same, put-other, wrote, Matches, Live, Linked}
 
 -- A CALL THAT CHANGES NOTHING ON THE BOARD

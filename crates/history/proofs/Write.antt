@@ -2,30 +2,29 @@
 -- Assumes nothing.
 use mathlib.Core.Path.{_≡_, refl, sym, ap, _∙_, subst}
 use mathlib.Core.Logic.{_⊎_, inl, inr}
-use mathlib.Core.Bool.{Bool, true, false, not}
-use mathlib.Core.List.{List, _∷_}
-use mathlib.Core.Option.{Option, none, some}
+use mathlib.Core.Bool.{true, not}
+use mathlib.Core.List.{List}
+use mathlib.Core.Option.{some}
 use Prim.Native.Nat.{ℕ, _+_, _≤_, _<_}
 use native.Mathlib.Omega.{arith}
-use lib.ListN.{length, getD, set}
+use lib.ListN.{length, set}
 use lib.Seq.{getD-set-same, getD-set-other}
 use borrow.Author.Tests.{le-leb}
 use Rattle.cells.specs.declared.Cell.{Cell}
 use Rattle.cells.specs.Cells.{noCell}
 use Rattle.cells.specs.Rules.{hasCell, newer, between}
-use Rattle.cells.proofs.Meaning.{Some, has-found}
+use Rattle.cells.proofs.Meaning.{has-found}
 use Rattle.steps.specs.declared.State.{State}
-use Rattle.steps.specs.declared.Place.{Place}
 use Rattle.steps.specs.declared.Board.{Board}
 use Rattle.steps.specs.Record.{allPlaces, isOpen, placeAt}
-use Rattle.steps.specs.Spent.{hasPlace, keepsAt, spent}
+use Rattle.steps.specs.Spent.{keepsAt, spent}
 use Rattle.steps.specs.Step.{draft, numberAt, viewAt}
 use Rattle.steps.proofs.Tests.{two, and-both as both}
 use Rattle.history.specs.History.{write, lastWrite, Run, doing, Ledger, put, tick}
 use Rattle.history.proofs.Basics.{cases, eq?, clash, pos, some-place}
 use Rattle.history.proofs.Facts.{cellAt, Draft, Version, newer-facts, between-facts, spent-facts}
 use Rattle.history.proofs.Leave.{wroteAt}
-use Rattle.history.proofs.Link.{put-same, put-other, write-same, write-other, wrote, busy, Matches, Live, Shows, Linked, writer-busy, same-place}
+use Rattle.history.proofs.Link.{put-same, put-other, write-same, write-other, wrote, Matches, Live, Shows, Linked, writer-busy, same-place}
 
 -- w shows a cell of the key numbered above m that is not cell i
 pub record Successor (cs : List Cell) (i w m k : ℕ) : Type 0 where
@@ -63,7 +62,7 @@ module _ (b : Board) (cs : List Cell) (L : Ledger) (𝓛 : Linked b cs L) (i : �
       successor (r .at) w m k (q .0) a h (omega (arith, q .1, y .3)))
       (λ e.
       let z : keepsAt cs c (placeAt b (y .0)) ≡ true =
-          both (ap isOpen (y .2)) (both (le-leb (c .commit) (viewAt b (y .0)) (omega (arith, y .3))) (ap not e)) in
+      both (ap isOpen (y .2)) (both (le-leb (c .commit) (viewAt b (y .0)) (omega (arith, y .3))) (ap not e)) in
       clash (some-place (keepsAt cs c) (b .places) (y .0) (omega (arith, y .1, 𝓛 .sixteen)) z) (f .2)))
 
 -- A WRITE TO CELL i
