@@ -278,5 +278,5 @@ module _ (b : Board) (ws : List ℕ) where
       of (Call.Update p key value) g =
           on-update Fits b ws p key value (λ i e. s) (λ n e. turned-shape b (length ws) s p (g .idle) State.Spoiled refl) (λ n e i f. s) (λ n e f. s)
       of (Call.Prepare p) g = turned-shape b (length ws) s p (g .idle) State.Prepared refl
-      of (Call.Commit p) g = idle-shape b (length ws) s p (g .idle) (b .commits + 1) (omega arith) (omega arith)
-      of (Call.Rollback p) g = idle-shape b (length ws) s p (g .idle) (b .commits) (omega arith) (omega arith)
+      of (Call.Commit p) g = idle-shape b (length ws) s p (g .idle) _ (omega arith) (omega arith)
+      of (Call.Rollback p) g = idle-shape b (length ws) s p (g .idle) _ (omega arith) (omega arith)
