@@ -1,7 +1,7 @@
 //! Two yard hosts share one board. The second looked before the first wrote, so its release is refused; it rolls back,
 //! looks again, and sees the truck. Run it in host/ with `cargo run --offline --example embed`.
 
-use lane::{Answer, Board, Refusal};
+use lane::{Board, Refusal};
 
 const FIRST: u32 = 0;
 const SECOND: u32 = 1;
@@ -9,21 +9,8 @@ const SEGMENT: u32 = 7;
 const FREE: u32 = 0;
 const TRUCK: u32 = 12;
 
-/// Frees the segment if it is held by the truck. A conflict is rolled back, and the caller looks again.
-fn release(board: &mut Board, place: u32, truck: u32) -> Answer {
-    let held = board.read(place, SEGMENT)?;
-    if held == truck {
-        if let Err(refusal) = board.update(place, SEGMENT, FREE) {
-            board.rollback(place)?;
-            return Err(refusal);
-        }
-    }
-    board.commit(place)?;
-    Ok(held)
-}
-
 fn main() -> Result<(), Refusal> {
-    let mut board = Board::new(1_024).expect("a board has 1 to 1,024 cells");
+    let mut board = Board::new(64).expect("a board has 1 to 1,024 cells");
 
     board.start(FIRST)?;
     board.update(FIRST, SEGMENT, TRUCK)?;
@@ -39,6 +26,6 @@ fn main() -> Result<(), Refusal> {
     board.rollback(SECOND)?;
 
     board.start(SECOND)?;
-    println!("after a new start it sees truck {} and frees the segment", release(&mut board, SECOND, TRUCK)?);
+    println!("after a new start it sees truck {}", board.read(SECOND, SEGMENT)?);
     Ok(())
 }
