@@ -1,6 +1,7 @@
 #!/usr/bin/env bash
 # The Rust side of the gate: builds what is missing, compiles and runs the C example, then every test in host/.
-# LANE_ROUNDS=n multiplies the cases of the comparisons. Ends with a line that says all passed, or is not 0.
+# LANE_ROUNDS=n multiplies the cases of the comparisons; above 1 it also plants seventy misreadings of document 01 and
+# demands that each is caught. Ends with a line that says all passed, or is not 0.
 set -euo pipefail
 cd "$(dirname "$0")/.."
 
@@ -32,7 +33,9 @@ if cargo clippy --version >/dev/null 2>&1; then
 fi
 
 echo "== tests"
-cargo test --offline --release --quiet --workspace || fail "a test failed"
+more=()
+[ "${LANE_ROUNDS:-1}" = 1 ] || more=(--features compare/misreadings)
+cargo test --offline --release --quiet --workspace "${more[@]}" || fail "a test failed"
 
 echo "== the story and the Rust example"
 cargo build --offline --release --quiet --workspace --examples || fail "an example does not compile"

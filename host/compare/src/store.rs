@@ -60,49 +60,82 @@ pub fn desk_program() -> Child {
         .unwrap_or_else(|e| panic!("target/bin/desk: {e}: run `rt check desk` in the root of the repository"))
 }
 
-macro_rules! store {
-    ($(#[$doc:meta])* $store:ident, $name:literal, $($path:ident)::+) => {
-        $(#[$doc])*
-        pub struct $store;
+/// The second implementation of document 01.
+pub struct Twin;
 
-        impl Store for $store {
-            fn name(&self) -> &'static str {
-                $name
-            }
+impl Store for Twin {
+    fn name(&self) -> &'static str {
+        "twin"
+    }
 
-            fn call(&self, record: &mut [u32], cells: &mut [u32], [kind, place, key, value]: [u32; 4]) -> (u32, u32) {
-                let answer = $($path)::+::words::call(record, cells, kind, place, key, value);
-                (answer.number, answer.value)
-            }
+    fn call(&self, record: &mut [u32], cells: &mut [u32], [kind, place, key, value]: [u32; 4]) -> (u32, u32) {
+        let answer = twin::words::call(record, cells, kind, place, key, value);
+        (answer.number, answer.value)
+    }
 
-            fn serve(&self, record: &mut [u32], cells: &mut [u32], calls: &[u8], answers: &mut [u8]) -> Served {
-                let served = $($path)::+::words::serve(record, cells, calls, answers);
-                (served.taken, served.written, served.why)
-            }
+    fn serve(&self, record: &mut [u32], cells: &mut [u32], calls: &[u8], answers: &mut [u8]) -> Served {
+        let served = twin::words::serve(record, cells, calls, answers);
+        (served.taken, served.written, served.why)
+    }
 
-            fn desk(&self, input: &[u8]) -> Vec<u8> {
-                $($path)::+::desk::desk(input)
-            }
-        }
-    };
+    fn desk(&self, input: &[u8]) -> Vec<u8> {
+        twin::desk(input)
+    }
 }
 
-store!(
-    /// The second implementation of document 01.
-    Twin,
-    "twin",
-    twin
-);
+type CallFn = fn(&mut [u32], &mut [u32], [u32; 4]) -> (u32, u32);
+type ServeFn = fn(&mut [u32], &mut [u32], &[u8], &mut [u8]) -> Served;
 
-/// Copies of the twin, each with one of document 01's shortcuts in it (see build.rs).
+/// A copy of the twin with something wrong planted in it (see build.rs).
+pub struct Planted {
+    name: &'static str,
+    call: CallFn,
+    serve: ServeFn,
+    desk: fn(&[u8]) -> Vec<u8>,
+}
+
+impl Store for Planted {
+    fn name(&self) -> &'static str {
+        self.name
+    }
+
+    fn call(&self, record: &mut [u32], cells: &mut [u32], numbers: [u32; 4]) -> (u32, u32) {
+        (self.call)(record, cells, numbers)
+    }
+
+    fn serve(&self, record: &mut [u32], cells: &mut [u32], calls: &[u8], answers: &mut [u8]) -> Served {
+        (self.serve)(record, cells, calls, answers)
+    }
+
+    fn desk(&self, input: &[u8]) -> Vec<u8> {
+        (self.desk)(input)
+    }
+}
+
+/// The copies: `SHORTCUTS`, "Four shortcuts that free or block the wrong segment", and `MISREADINGS` of other sentences.
 mod planted {
-    include!(concat!(env!("OUT_DIR"), "/shortcuts.rs"));
+    use super::Planted;
+
+    macro_rules! planted {
+        ($copy:ident) => {
+            Planted {
+                name: stringify!($copy),
+                call: |record, cells, [kind, place, key, value]| {
+                    let answer = $copy::words::call(record, cells, kind, place, key, value);
+                    (answer.number, answer.value)
+                },
+                serve: |record, cells, calls, answers| {
+                    let served = $copy::words::serve(record, cells, calls, answers);
+                    (served.taken, served.written, served.why)
+                },
+                desk: $copy::desk::desk,
+            }
+        };
+    }
+
+    include!(concat!(env!("OUT_DIR"), "/planted.rs"));
 }
 
-store!(ConflictAtCommit, "conflict_at_commit", planted::conflict_at_commit);
-store!(NewestAtEachRead, "newest_at_each_read", planted::newest_at_each_read);
-store!(AnyButTheNewest, "any_but_the_newest", planted::any_but_the_newest);
-store!(FirstCellAlone, "first_cell_alone", planted::first_cell_alone);
-
-/// "Four shortcuts that free or block the wrong segment", in document 01's order.
-pub const SHORTCUTS: [&dyn Store; 4] = [&ConflictAtCommit, &NewestAtEachRead, &AnyButTheNewest, &FirstCellAlone];
+#[cfg(feature = "misreadings")]
+pub use planted::MISREADINGS;
+pub use planted::SHORTCUTS;

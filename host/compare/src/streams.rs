@@ -5,7 +5,7 @@ use crate::store::desk_program;
 use crate::{codecs, shrink, Counts, Difference, Progress, Store};
 use std::io::{Read, Write};
 use std::sync::mpsc;
-use std::time::Duration;
+use std::time::{Duration, Instant};
 use twin::board::Call;
 use twin::records::{call_record, read_answer};
 
@@ -174,12 +174,9 @@ fn difference(a: &dyn Store, b: &dyn Store, mut calls: Vec<Bytes>, what: &str) -
     if differ(&prefix) {
         calls = prefix;
     }
-    // on long streams a bounded number of tries, since each runs a program
-    let mut tries = 2_000;
-    shrink::drop_parts(&mut calls, 1, &mut |calls| {
-        tries -= 1;
-        tries > 0 && differ(calls)
-    });
+    // each try runs a program, and some streams are dear: what is found in half a minute has to do
+    let begun = Instant::now();
+    shrink::drop_parts(&mut calls, 1, &mut |calls| begun.elapsed() < Duration::from_secs(30) && differ(calls));
     bytes_difference(a, b, &calls.concat(), what)
 }
 

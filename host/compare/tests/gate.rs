@@ -1,7 +1,7 @@
 //! The comparisons of the gate, on two cores in about two minutes. `LANE_ROUNDS=n` multiplies the numbers of cases.
 
 use compare::store::SHORTCUTS;
-use compare::{boards, codecs, exhaustive, rounds, say, situations, streams, Counts, Proved, Twin};
+use compare::{boards, codecs, exhaustive, rounds, say, situations, streams, Counts, Proved, Store as _, Twin};
 
 /// The gate's numbers of cases for one round.
 const BOARDS: u64 = 300_000;
@@ -112,7 +112,8 @@ fn the_eleven_situations() {
 /// Each of document 01's four shortcuts, planted in a copy of the twin, is caught by each of the comparisons.
 #[test]
 fn the_four_shortcuts_are_caught() {
-    for shortcut in SHORTCUTS {
+    assert_eq!(SHORTCUTS.len(), 4);
+    for shortcut in &SHORTCUTS {
         let mut rng = compare::rng::Rng::new(0x1A2E_0008);
         let found = [
             ("boards", boards::compare(&Proved, shortcut, rng.draw(), BOARDS).err()),
@@ -125,4 +126,30 @@ fn the_four_shortcuts_are_caught() {
             say(&format!("{comparison} caught {}: {difference:?}", shortcut.name()));
         }
     }
+}
+
+/// Each misreading of some sentence of document 01, planted in a copy of the twin, is caught by one of the comparisons:
+/// the generators reach what the sentence decides.
+#[cfg(feature = "misreadings")]
+#[test]
+fn misreadings_are_caught() {
+    let mut caught = Counts::default();
+    let filled = streams::filled(&mut compare::rng::Rng::new(0x1A2E_0004)).concat();
+    let answers = Proved.desk(&filled);
+    for misreading in &compare::store::MISREADINGS {
+        let by = if boards::compare(&Proved, misreading, 0x1A2E_0009, BOARDS / 2).is_err() {
+            "boards"
+        } else if codecs::compare(&Proved, misreading).is_err() {
+            "records"
+        } else if streams::damaged(&Proved, misreading, 0x1A2E_000A, 1).is_err() {
+            "damaged streams"
+        } else if misreading.desk(&filled) != answers {
+            "filled boards"
+        } else {
+            panic!("no comparison caught {}", misreading.name());
+        };
+        say(&format!("{by} caught {}", misreading.name()));
+        caught.add(by);
+    }
+    met("misreadings caught", &caught, &["boards", "records", "damaged streams"], 1);
 }
