@@ -1,5 +1,6 @@
 //! Compiles the few C functions over WiredTiger (src/wired.c) where Debian's libwiredtiger-dev is installed, and leaves
-//! it out where it is not. `LANE_WIREDTIGER` is set by ./lane, so that the answer is asked again when it changes.
+//! it out where it is not, or where `LANE_WIREDTIGER=missing` says so. ./lane sets that, so that what is installed later
+//! is found.
 
 use std::path::Path;
 use std::process::Command;
@@ -10,7 +11,8 @@ fn main() {
     println!("cargo:rerun-if-changed=src/wired.c");
     println!("cargo:rerun-if-env-changed=LANE_WIREDTIGER");
     let out = std::env::var("OUT_DIR").expect("cargo sets OUT_DIR");
-    if !Path::new("/usr/include/wiredtiger.h").exists() {
+    let missing = std::env::var("LANE_WIREDTIGER").is_ok_and(|said| said == "missing");
+    if missing || !Path::new("/usr/include/wiredtiger.h").exists() {
         return;
     }
     let run = |program: &str, words: &[&str]| Command::new(program).args(words).status().is_ok_and(|s| s.success());
