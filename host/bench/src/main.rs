@@ -14,9 +14,10 @@ use work::{One, Reads, Rng, Sixteen, Work};
 mod peers;
 mod work;
 
-/// How often each peer is measured, and for how long at least.
-const PASSES: usize = 5;
-const LONG: Duration = Duration::from_millis(400);
+/// How often each peer is measured, and for how long at least: many short measurements, since some of them will fall into
+/// a moment in which nothing else runs.
+const PASSES: usize = 25;
+const LONG: Duration = Duration::from_millis(60);
 
 /// A peer at work, with the best rate measured so far.
 struct Runner {
@@ -37,7 +38,7 @@ impl Runner {
         while begun.elapsed() < LONG {
             black_box((self.run)(piece));
             done += piece;
-            piece = (piece * 2).min(8_192);
+            piece = (piece * 2).min(1_024);
         }
         self.best = self.best.max(done as f64 / begun.elapsed().as_secs_f64());
     }
@@ -61,18 +62,29 @@ fn runner(name: &'static str, mut peer: impl Peer + 'static, mut work: impl Work
 
 /// The peers of W1 and W2, each with every key written before.
 fn written(work: impl Fn() -> Box<dyn Work>) -> Vec<Runner> {
-    let mut peers: Vec<(&'static str, Box<dyn Peer>)> = vec![("lane", Box::new(proved())), ("twin", Box::new(twin()))];
-    #[cfg(wiredtiger)]
-    match peers::wired::Wired::open() {
-        Some(wired) => peers.push(("WiredTiger", Box::new(wired))),
-        None => eprintln!("WiredTiger is there but did not open"),
-    }
+    let here: [(&'static str, Box<dyn Peer>); 2] = [("lane", Box::new(proved())), ("twin", Box::new(twin()))];
+    let peers = here.into_iter().chain(wired().map(|peer| ("WiredTiger", peer)));
     let ready = |(name, mut peer): (&'static str, Box<dyn Peer>)| {
         work::write_every_key(&mut *peer);
         let mut work = work();
         Runner::new(name, move |n| work.run(&mut *peer, n))
     };
-    peers.into_iter().map(ready).collect()
+    peers.map(ready).collect()
+}
+
+/// WiredTiger, where the bench was built with it.
+#[cfg(wiredtiger)]
+fn wired() -> Option<Box<dyn Peer>> {
+    let wired = peers::wired::Wired::open();
+    if wired.is_none() {
+        eprintln!("WiredTiger is installed but did not open");
+    }
+    wired.map(|wired| Box::new(wired) as Box<dyn Peer>)
+}
+
+#[cfg(not(wiredtiger))]
+fn wired() -> Option<Box<dyn Peer>> {
+    None
 }
 
 fn proved() -> Proved {
