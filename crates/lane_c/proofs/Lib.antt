@@ -1,0 +1,4 @@
+-- Laws for the proofs of this crate, and its theorems.
+pub mod Laws
+pub mod Words
+pub mod Turns
