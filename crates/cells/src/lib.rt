@@ -172,3 +172,117 @@ pub fn put_cell(cells: &mut [u32], i: usize, c: Cell)
     cells[w + 2] = c.number;
     cells[w + 3] = c.commit;
 }
+
+// The lowest own cell of the key
+pub fn own_at(cells: &[u32], key: u32, number: u32) -> Found
+    ensures { λ r. ⌜ r ≡ ownAt key number (cellsOf (now (cells .entry))) ⌝ }
+{
+    let n = count(cells);
+    for i in 0..n {
+        let c = cell_at(cells, i);
+        if c.of_key(key) & c.own(number) {
+            return Found::At(i);
+        }
+    }
+    Found::Nothing
+}
+
+// The key's committed cell with the greatest commit number that is at most the view, the lowest on a tie
+pub fn newest_seen(cells: &[u32], key: u32, view: u32) -> Cell
+    ensures { λ r. ⌜ r ≡ newestSeen key view (cellsOf (now (cells .entry))) ⌝ }
+{
+    let n = count(cells);
+    let mut best = Cell::none();
+    let mut i = 0;
+    while i < n {
+        let c = cell_at(cells, i);
+        i += 1;
+        if c.of_key(key) & c.seen_by(view) & (best.commit < c.commit) {
+            best = c;
+        }
+    }
+    best
+}
+
+// Whether the key has a foreign cell or a committed cell with a commit number above the view
+pub fn conflicts(cells: &[u32], key: u32, number: u32, view: u32) -> bool
+    ensures { λ r. ⌜ r ≡ conflict key number view (cellsOf (now (cells .entry))) ⌝ }
+{
+    let n = count(cells);
+    for i in 0..n {
+        let c = cell_at(cells, i);
+        if c.of_key(key) & c.clashes(number, view) {
+            return true;
+        }
+    }
+    false
+}
+
+// Whether a foreign cell of the key has the other number
+pub fn foreign_with(cells: &[u32], key: u32, number: u32, other: u32) -> bool
+    ensures { λ r. ⌜ r ≡ foreignWith key number other (cellsOf (now (cells .entry))) ⌝ }
+{
+    let n = count(cells);
+    for i in 0..n {
+        let c = cell_at(cells, i);
+        if c.of_key(key) & c.foreign(number) & (c.number == other) {
+            return true;
+        }
+    }
+    false
+}
+
+// Whether the cell's key has a committed cell with a number above the cell's
+pub fn outdated(cells: &[u32], c: Cell) -> bool
+    ensures { λ r. ⌜ r ≡ hasCell (newer c) (cellsOf (now (cells .entry))) ⌝ }
+{
+    let n = count(cells);
+    for i in 0..n {
+        let d = cell_at(cells, i);
+        if c.newer(d) {
+            return true;
+        }
+    }
+    false
+}
+
+// Whether a view keeps the cell: it is at least the cell's number, and sees no newer one
+pub fn kept(cells: &[u32], c: Cell, view: u32) -> bool
+    ensures { λ r. ⌜ r ≡ keeps (cellsOf (now (cells .entry))) c view ⌝ }
+{
+    if view < c.commit {
+        return false;
+    }
+    let n = count(cells);
+    for i in 0..n {
+        let d = cell_at(cells, i);
+        if c.between(d, view) {
+            return false;
+        }
+    }
+    true
+}
+
+// Every own cell takes the commit number
+pub fn stamp(cells: &mut [u32], number: u32, commit: u32)
+    ensures { λ r. ⌜ now (cells .exit) ≡ withCells (now (cells .entry)) (map (stamped number commit) (cellsOf (now (cells .entry)))) ⌝ }
+{
+    let n = count(cells);
+    for i in 0..n {
+        let c = cell_at(cells, i).stamped(number, commit);
+        put_cell(cells, i, c);
+    }
+}
+
+// Every own cell becomes four zeros
+pub fn wipe(cells: &mut [u32], number: u32)
+    ensures { λ r. ⌜ now (cells .exit) ≡ withCells (now (cells .entry)) (map (wiped number) (cellsOf (now (cells .entry)))) ⌝ }
+{
+    let n = count(cells);
+    for i in 0..n {
+        let c = cell_at(cells, i);
+        if c.own(number) {
+            put_cell(cells, i, Cell::none());
+        }
+    }
+}

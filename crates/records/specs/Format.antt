@@ -1,6 +1,6 @@
 -- Records: a call's ten bytes and an answer's eight; what reading and writing one at an offset give.
 -- Assumes nothing.
-use mathlib.Core.Bool.{Bool, true, false, _&&_}
+use mathlib.Core.Bool.{Bool, true, false, _&&_, cond}
 use mathlib.Core.List.{List, [], _∷_, _++_}
 use Prim.Native.Nat.{ℕ, zero, suc, _+_, _*_, _/_, _%_, _^_}
 use lib.Dec.{eqb, ltb, leb}
@@ -84,26 +84,25 @@ sameBytes [] (b ∷ bs) = false
 sameBytes (a ∷ bs) [] = false
 sameBytes (a ∷ bs) (b ∷ cs) = eqb a b && sameBytes bs cs
 
--- the first where the test passes, otherwise the second
-abbrev pub pickCall : Bool → CallRead → CallRead → CallRead
-pickCall true a b = a
-pickCall false a b = b
+-- the calls with a place, a key and a value in the order of their kinds; at 0, which is no kind, one whose record has another
+abbrev pub callsOf : ℕ → ℕ → ℕ → List Call
+callsOf place key value =
+    Call.Rollback place ∷ (Call.Start place ∷ (Call.Read place key ∷ (Call.Update place key value ∷
+    (Call.Prepare place ∷ (Call.Commit place ∷ [])))))
 
-abbrev pub pickAnswer : Bool → AnswerRead → AnswerRead → AnswerRead
-pickAnswer true a b = a
-pickAnswer false a b = b
+-- the answers with a value in the order of their numbers
+abbrev pub answersOf : ℕ → List Answer
+answersOf value =
+    Answer.Ok value ∷ (Answer.Board ∷ (Answer.Place ∷ (Answer.Busy ∷ (Answer.Idle ∷ (Answer.Worn ∷ (Answer.Spoiled ∷
+    (Answer.Held ∷ (Answer.Key ∷ (Answer.Conflict ∷ (Answer.Prepared ∷ (Answer.Full ∷ [])))))))))))
 
--- the call that a kind, a place, a key and a value name; a kind that is none gets the rollback, whose record has another kind
+-- the call that a kind, a place, a key and a value name, with kind 6 for every kind past the list
 abbrev pub callOf : ℕ → ℕ → ℕ → ℕ → Call
-callOf kind place key value =
-    getD (Call.Rollback place ∷ (Call.Start place ∷ (Call.Read place key ∷ (Call.Update place key value ∷
-    (Call.Prepare place ∷ (Call.Commit place ∷ [])))))) kind (Call.Rollback place)
+callOf kind place key value = getD (callsOf place key value) kind (Call.Rollback place)
 
--- the answer that a number and a value name; a number above 12 gets RECORD, whose record has another number
+-- the answer that a number and a value name, with number 12 for every number past the list
 abbrev pub answerOf : ℕ → ℕ → Answer
-answerOf number value =
-    getD (Answer.Ok value ∷ (Answer.Board ∷ (Answer.Place ∷ (Answer.Busy ∷ (Answer.Idle ∷ (Answer.Worn ∷ (Answer.Spoiled ∷
-    (Answer.Held ∷ (Answer.Key ∷ (Answer.Conflict ∷ (Answer.Prepared ∷ (Answer.Full ∷ [])))))))))))) number Answer.Record
+answerOf number value = getD (answersOf value) number Answer.Record
 
 -- the one call that ten bytes could be the record of
 unfoldable pub callFrom : List ℕ → Call
@@ -115,11 +114,11 @@ replyFrom bs = record { place = getD bs 3 0; answer = answerOf (getD bs 2 0) (nu
 
 -- the call that the bytes are the record of; RECORD for bytes that are no call record
 unfoldable pub callIn : List ℕ → CallRead
-callIn bs = pickCall (sameBytes bs (callRecord (callFrom bs))) (CallRead.Good (callFrom bs)) CallRead.Record
+callIn bs = cond (sameBytes bs (callRecord (callFrom bs))) (CallRead.Good (callFrom bs)) CallRead.Record
 
 -- the answer that the bytes are the record of; RECORD for bytes that are no answer record
 unfoldable pub answerIn : List ℕ → AnswerRead
-answerIn bs = pickAnswer (sameBytes bs (answerRecord (replyFrom bs))) (AnswerRead.Good (replyFrom bs)) AnswerRead.Record
+answerIn bs = cond (sameBytes bs (answerRecord (replyFrom bs))) (AnswerRead.Good (replyFrom bs)) AnswerRead.Record
 
 -- reading takes the record at a given offset in lent bytes; an offset past the end is RECORD
 unfoldable pub callAt : List ℕ → ℕ → CallRead
@@ -142,14 +141,10 @@ pub record Written : Type 0 where
 abbrev pub wrote : Answer → List ℕ → Written
 wrote answer bs = record { number = numberOf answer; value = valueOf answer; bytes = bs }
 
-abbrev pub pickWritten : Bool → Written → Written → Written
-pickWritten true a b = a
-pickWritten false a b = b
-
 -- RECORD for what has no record, or too few bytes to write one in; on RECORD no byte changes
 abbrev pub written : Bool → List ℕ → ℕ → List ℕ → Written
 written has bs at rec =
-    pickWritten (has && leb (at + length rec) (length bs)) (wrote (Answer.Ok 0) (putAt bs at rec)) (wrote Answer.Record bs)
+    cond (has && leb (at + length rec) (length bs)) (wrote (Answer.Ok 0) (putAt bs at rec)) (wrote Answer.Record bs)
 
 -- writing a call: RECORD for a call that has no record, or fewer than 10 bytes to write one in
 unfoldable pub writtenCall : List ℕ → ℕ → Call → Written

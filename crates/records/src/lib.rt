@@ -1,7 +1,24 @@
 // Calls and answers, and their records: a call's ten bytes, an answer's eight.
+ghost use mathlib.Core.Bool.{_&&_};
 ghost use mathlib.Core.Path.{_≡_};
+ghost use Prim.Native.Nat.{_+_, _<_, _≤_};
+ghost use lib.Dec.{eqb, leb};
+ghost use lib.ListN.{length, getD, take, drop};
 ghost use Rattle.records.specs.Answers.{numberOf, valueOf, placeOf};
-ghost use Rattle.records.specs.Format.{kindOf, keyOf, newValueOf};
+ghost use Rattle.records.specs.Format.{
+  callBytes,
+  answerBytes,
+  kindOf,
+  keyOf,
+  newValueOf,
+  numberIn,
+  callOf,
+  callIn,
+  callAt,
+  answerOf,
+  answerIn,
+  answerAt,
+};
 
 pub enum Call {
     Start { place: u32 },
@@ -163,4 +180,159 @@ fn new_value_of(c: Call) -> u32
         Call::Commit { place: _ } => 0,
         Call::Rollback { place: _ } => 0,
     }
+}
+
+// Takes the call record at an offset.
+pub fn read_call(bytes: &[u8], at: usize) -> CallRead
+    ensures { λ r. ⌜ r ≡ callAt (now (bytes .entry)) at ⌝ }
+{
+    if room(bytes.len(), at, CALL_BYTES) {
+        call_in(&bytes[at..])
+    } else {
+        CallRead::Record
+    }
+}
+
+// Takes the answer record at an offset.
+pub fn read_answer(bytes: &[u8], at: usize) -> AnswerRead
+    ensures { λ r. ⌜ r ≡ answerAt (now (bytes .entry)) at ⌝ }
+{
+    if room(bytes.len(), at, ANSWER_BYTES) {
+        answer_in(&bytes[at..])
+    } else {
+        AnswerRead::Record
+    }
+}
+
+// Whether there are so many bytes from an offset on.
+fn room(len: usize, at: usize, bytes: usize) -> bool
+    ensures { λ r. ⌜ r ≡ leb (at + bytes) len ⌝ }
+{
+    if len < at {
+        return false;
+    }
+    bytes <= len - at
+}
+
+// The call whose record the first ten bytes are.
+fn call_in(s: &[u8]) -> CallRead
+    requires { ⌜ callBytes ≤ length (now s) ⌝ }
+    ensures { λ r. ⌜ r ≡ callIn (take callBytes (now (s .entry))) ⌝ }
+{
+    let kind = s[2];
+    let place = wide(s[3]);
+    let key = two(s, 4);
+    let value = four(s, 6);
+    let call = call_of(kind, place, key, value);
+    if marked(s, 0x43, 0x4c) & call_named(call, kind, key, value) {
+        CallRead::Good(call)
+    } else {
+        CallRead::Record
+    }
+}
+
+// The answer whose record the first eight bytes are.
+fn answer_in(s: &[u8]) -> AnswerRead
+    requires { ⌜ answerBytes ≤ length (now s) ⌝ }
+    ensures { λ r. ⌜ r ≡ answerIn (take answerBytes (now (s .entry))) ⌝ }
+{
+    let no = s[2];
+    let place = wide(s[3]);
+    let val = four(s, 4);
+    let answer = answer_of(no, val);
+    if marked(s, 0x41, 0x4e) & answer_named(answer, no, val) {
+        AnswerRead::Good(Reply {
+            place: place,
+            answer: answer,
+        })
+    } else {
+        AnswerRead::Record
+    }
+}
+
+// The call that a kind, a place, a key and a value name.
+fn call_of(kind: u8, place: u32, key: u32, value: u32) -> Call
+    ensures { λ r. ⌜ r ≡ callOf kind place key value ⌝ }
+{
+    match kind {
+        1 => Call::Start { place: place },
+        2 => Call::Read {
+            place: place,
+            key: key,
+        },
+        3 => Call::Update {
+            place: place,
+            key: key,
+            value: value,
+        },
+        4 => Call::Prepare { place: place },
+        5 => Call::Commit { place: place },
+        _ => Call::Rollback { place: place },
+    }
+}
+
+// The answer that a number and a value name.
+fn answer_of(number: u8, value: u32) -> Answer
+    ensures { λ r. ⌜ r ≡ answerOf number value ⌝ }
+{
+    match number {
+        0 => Answer::Ok(value),
+        1 => Answer::Board,
+        2 => Answer::Place,
+        3 => Answer::Busy,
+        4 => Answer::Idle,
+        5 => Answer::Worn,
+        6 => Answer::Spoiled,
+        7 => Answer::Held,
+        8 => Answer::Key,
+        9 => Answer::Conflict,
+        10 => Answer::Prepared,
+        11 => Answer::Full,
+        _ => Answer::Record,
+    }
+}
+
+// Whether a call has this kind, and this key and value in its record.
+fn call_named(call: Call, kind: u8, key: u32, value: u32) -> bool
+    ensures { λ r. ⌜ r ≡ (eqb kind (kindOf call) && (eqb key (keyOf call) && eqb value (newValueOf call))) ⌝ }
+{
+    (kind == kind_of(call)) & ((key == key_of(call)) & (value == new_value_of(call)))
+}
+
+// Whether an answer has this number and this value.
+fn answer_named(answer: Answer, no: u8, val: u32) -> bool
+    ensures { λ r. ⌜ r ≡ (eqb no (numberOf answer) && eqb val (valueOf answer)) ⌝ }
+{
+    (no == number(answer)) & (val == value(answer))
+}
+
+// Whether the first two bytes are a mark.
+fn marked(s: &[u8], first: u8, second: u8) -> bool
+    requires { ⌜ 2 ≤ length (now s) ⌝ }
+    ensures { λ r. ⌜ r ≡ (eqb (getD (now (s .entry)) 0 0) first && eqb (getD (now (s .entry)) 1 0) second) ⌝ }
+{
+    (s[0] == first) & (s[1] == second)
+}
+
+// The number in four bytes from an offset.
+fn four(s: &[u8], at: usize) -> u32
+    requires { ⌜ at + 4 ≤ length (now s) ⌝ }
+    ensures { λ r. ⌜ r ≡ numberIn (take 4 (drop at (now (s .entry)))) ⌝ }
+{
+    two(s, at) + 65536 * two(s, at + 2)
+}
+
+// The number in two bytes from an offset.
+fn two(s: &[u8], at: usize) -> u32
+    requires { ⌜ at + 2 ≤ length (now s) ⌝ }
+    ensures { λ r. ⌜ (r ≡ numberIn (take 2 (drop at (now (s .entry))))) × (r < 65536) ⌝ }
+{
+    wide(s[at]) + 256 * wide(s[at + 1])
+}
+
+// A byte as a number.
+fn wide(b: u8) -> u32
+    ensures { λ r. ⌜ (r ≡ b) × (r < 256) ⌝ }
+{
+    b as u32
 }

@@ -3,3 +3,5 @@ pub mod Shape
 pub mod Check
 pub mod Spent
 pub mod Step
+pub mod Table
+pub mod Situations

@@ -1,0 +1,8 @@
+-- Laws for the proofs of this crate and of those above it, and its theorems.
+pub mod Tests
+pub mod Cases
+pub mod Places
+pub mod Checks
+pub mod Refusals
+pub mod Exact
+pub mod Situations
