@@ -5,4 +5,6 @@ pub mod Places
 pub mod Checks
 pub mod Refusals
 pub mod Exact
+pub mod Keeps
 pub mod Situations
+pub mod Unique
