@@ -2,3 +2,5 @@
 pub mod Laws
 pub mod Words
 pub mod Turns
+pub mod Calls
+pub mod Serves

@@ -17,7 +17,9 @@ use Rattle.steps.specs.declared.State.{State}
 use Rattle.steps.specs.declared.Place.{Place}
 use Rattle.steps.specs.declared.Board.{Board}
 use Rattle.steps.specs.Record.{allPlaces, idlePlace, freshBoard}
-use Rattle.lane_c.proofs.Laws.{and-left, and-right, drop-next, take-next, take-whole, three-left}
+use Rattle.cells.proofs.Laws.{drop-next}
+use Rattle.steps.proofs.Tests.{and-left, and-right}
+use Rattle.lane_c.proofs.Laws.{three-left}
 use Rattle.lane_c.specs.Words.{recordWords, stateWord, stateOf, placesOf, wordsOfPlaces, recordOf, wordsOfRecord, statesFit, wellFormed}
 
 pub length-places : (ws : List ℕ) → length (placesOf ws) ≡ length ws / 3
@@ -159,10 +161,14 @@ words-places (a ∷ (b ∷ (c ∷ ws))) h =
     let e : 3 * (length (a ∷ (b ∷ (c ∷ ws))) / 3) ≡ suc (suc (suc (3 * (length ws / 3)))) = omega arith in
     rw (e, word-state a (and-left (leb a 3) (statesFit ws) h), words-places ws (and-right (leb a 3) (statesFit ws) h))
 
+pub well-length : (ws : List ℕ) → wellFormed ws ≡ true → length ws ≡ recordWords
+unfolding wellFormed
+well-length ws h = eqb-true (length ws) recordWords (and-left (eqb (length ws) recordWords) (statesFit ws) h)
+
 pub words-record : (ws : List ℕ) → wellFormed ws ≡ true → wordsOfRecord (recordOf ws) ≡ ws
 unfolding wellFormed recordOf wordsOfRecord
 words-record ws h =
-    let l : length ws ≡ recordWords = eqb-true (length ws) recordWords (and-left (eqb (length ws) recordWords) (statesFit ws) h) in
+    let l : length ws ≡ recordWords = well-length ws h in
     let n : 3 * (length ws / 3) ≡ 48 = omega arith in
     let d : drop 48 ws ≡ getD ws 48 0 ∷ (getD ws 49 0 ∷ []) =
     drop-next ws 48 0 (omega arith)

@@ -6,7 +6,7 @@ use native.Mathlib.Omega.{arith}
 use lib.ListN.{length, getD, take, length-set}
 use Rattle.steps.specs.Record.{allPlaces, idlePlace}
 use Rattle.lane_c.specs.Words.{recordWords, wordsOfRecord}
-use Rattle.lane_c.proofs.Laws.{long}
+use Rattle.steps.proofs.Places.{long}
 use Rattle.lane_c.proofs.Turns.{save-turn, save-end}
 use Rattle.lane_c.proofs.save.Statement.{statement}
 use Rattle.lane_c.proofs.save.Tie as tie
