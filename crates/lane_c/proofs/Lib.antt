@@ -4,3 +4,4 @@ pub mod Words
 pub mod Turns
 pub mod Calls
 pub mod Serves
+pub mod Kept
