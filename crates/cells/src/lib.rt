@@ -1,4 +1,13 @@
 // The cells of a lane board: four lent words to a cell. Nobody else knows how wide a cell is.
+ghost use mathlib.Core.Path.{_≡_};
+ghost use mathlib.Core.List.{map};
+ghost use Prim.Native.Nat.{ℕ, _+_, _/_, _<_};
+ghost use lib.ListN.{length, getD, set};
+ghost use Rattle.cells.specs.Cells.{noCell, cellsOf, withCells, countOf, wholeCells};
+ghost use Rattle.cells.specs.Cells.{empty, ofKey, committed, own, foreign, seenBy};
+ghost use Rattle.cells.specs.Rules.{ownAt, newestSeen, conflict, foreignWith, hasCell, keeps};
+ghost use Rattle.cells.specs.Rules.{mine, visible, blocks, foreignOf, clashes, valued, stamped, wiped, newer, between};
+
 pub struct Cell {
     pub word: u32,
     pub value: u32,
@@ -10,4 +19,300 @@ pub struct Cell {
 pub enum Found {
     At(usize),
     Nothing,
+}
+
+impl Cell {
+    // Four zeros
+    pub fn none() -> Cell
+        ensures { λ r. ⌜ r ≡ noCell ⌝ }
+    {
+        Cell {
+            word: 0,
+            value: 0,
+            number: 0,
+            commit: 0,
+        }
+    }
+
+    // 0 marks an empty cell
+    pub fn empty(self) -> bool
+        ensures { λ r. ⌜ r ≡ empty self ⌝ }
+    {
+        self.word == 0
+    }
+
+    // A cell of the key, for any key: the sum is taken where it cannot wrap
+    pub fn of_key(self, key: u32) -> bool
+        ensures { λ r. ⌜ r ≡ ofKey key self ⌝ }
+    {
+        self.word as u64 == key as u64 + 1
+    }
+
+    // Nonempty, with a commit number above 0
+    pub fn committed(self) -> bool
+        ensures { λ r. ⌜ r ≡ committed self ⌝ }
+    {
+        (self.word != 0) & (0 < self.commit)
+    }
+
+    // Nonempty, uncommitted and with the transaction's number
+    pub fn own(self, number: u32) -> bool
+        ensures { λ r. ⌜ r ≡ own number self ⌝ }
+    {
+        (self.word != 0) & (self.commit == 0) & (self.number == number)
+    }
+
+    // Nonempty, uncommitted and with another number
+    pub fn foreign(self, number: u32) -> bool
+        ensures { λ r. ⌜ r ≡ foreign number self ⌝ }
+    {
+        (self.word != 0) & (self.commit == 0) & (self.number != number)
+    }
+
+    // Committed, with a commit number that is at most the view
+    pub fn seen_by(self, view: u32) -> bool
+        ensures { λ r. ⌜ r ≡ seenBy view self ⌝ }
+    {
+        self.committed() & (self.commit <= view)
+    }
+
+    // Foreign, or committed with a commit number above the view
+    pub fn clashes(self, number: u32, view: u32) -> bool
+        ensures { λ r. ⌜ r ≡ clashes number view self ⌝ }
+    {
+        self.foreign(number) | (self.committed() & (view < self.commit))
+    }
+
+    // d is a committed cell of the same key with a number above this one's
+    pub fn newer(self, d: Cell) -> bool
+        ensures { λ r. ⌜ r ≡ newer self d ⌝ }
+    {
+        (d.word == self.word) & d.committed() & (self.commit < d.commit)
+    }
+
+    // d is newer, and its number is at most the view
+    pub fn between(self, d: Cell, view: u32) -> bool
+        ensures { λ r. ⌜ r ≡ between self view d ⌝ }
+    {
+        self.newer(d) && d.commit <= view
+    }
+
+    // An own cell of the key. Most cells fail the first test, here and in the next three, and are asked no more
+    fn mine(self, key: u32, number: u32) -> bool
+        ensures { λ r. ⌜ r ≡ mine key number self ⌝ }
+    {
+        self.of_key(key) && self.own(number)
+    }
+
+    // A committed cell of the key with a commit number that is at most the view
+    fn visible(self, key: u32, view: u32) -> bool
+        ensures { λ r. ⌜ r ≡ visible key view self ⌝ }
+    {
+        self.of_key(key) && self.seen_by(view)
+    }
+
+    // A cell of the key that clashes
+    fn blocks(self, key: u32, number: u32, view: u32) -> bool
+        ensures { λ r. ⌜ r ≡ blocks key number view self ⌝ }
+    {
+        self.of_key(key) && self.clashes(number, view)
+    }
+
+    // A foreign cell of the key that has the other number
+    fn foreign_of(self, key: u32, number: u32, other: u32) -> bool
+        ensures { λ r. ⌜ r ≡ foreignOf key number other self ⌝ }
+    {
+        self.of_key(key) && self.foreign(number) & (self.number == other)
+    }
+
+    // The cell takes the value
+    pub fn valued(self, value: u32) -> Cell
+        ensures { λ r. ⌜ r ≡ valued value self ⌝ }
+    {
+        Cell {
+            word: self.word,
+            value,
+            number: self.number,
+            commit: self.commit,
+        }
+    }
+
+    // An own cell takes the commit number
+    pub fn stamped(self, number: u32, commit: u32) -> Cell
+        ensures { λ r. ⌜ r ≡ stamped number commit self ⌝ }
+    {
+        if self.own(number) {
+            Cell {
+                word: self.word,
+                value: self.value,
+                number: self.number,
+                commit,
+            }
+        } else {
+            self
+        }
+    }
+
+    // An own cell becomes four zeros
+    pub fn wiped(self, number: u32) -> Cell
+        ensures { λ r. ⌜ r ≡ wiped number self ⌝ }
+    {
+        if self.own(number) { Cell::none() } else { self }
+    }
+}
+
+// How many whole cells the words are
+pub fn count(cells: &[u32]) -> usize
+    ensures { λ r. ⌜ r ≡ countOf (length (now (cells .entry))) ⌝ }
+{
+    cells.len() / 4
+}
+
+// Whether a number of words is 1 to so many whole cells
+pub fn whole(words: usize, most: usize) -> bool
+    ensures { λ r. ⌜ r ≡ wholeCells most words ⌝ }
+{
+    (words % 4 == 0) & (1 <= words / 4) & (words / 4 <= most)
+}
+
+// The cell of a number
+pub fn cell_at(cells: &[u32], i: usize) -> Cell
+    requires { ⌜ i < countOf (length (now cells)) ⌝ }
+    ensures { λ r. ⌜ r ≡ getD (cellsOf (now (cells .entry))) i noCell ⌝ }
+{
+    let w = 4 * i;
+    Cell {
+        word: cells[w],
+        value: cells[w + 1],
+        number: cells[w + 2],
+        commit: cells[w + 3],
+    }
+}
+
+// One cell is written whole
+pub fn put_cell(cells: &mut [u32], i: usize, c: Cell)
+    requires { ⌜ i < countOf (length (now cells)) ⌝ }
+    ensures { λ r. ⌜ now (cells .exit) ≡ withCells (now (cells .entry)) (set (cellsOf (now (cells .entry))) i c) ⌝ }
+{
+    let w = 4 * i;
+    cells[w] = c.word;
+    cells[w + 1] = c.value;
+    cells[w + 2] = c.number;
+    cells[w + 3] = c.commit;
+}
+
+// The lowest own cell of the key
+pub fn own_at(cells: &[u32], key: u32, number: u32) -> Found
+    ensures { λ r. ⌜ r ≡ ownAt key number (cellsOf (now (cells .entry))) ⌝ }
+{
+    let n = count(cells);
+    for i in 0..n {
+        let c = cell_at(cells, i);
+        if c.mine(key, number) {
+            return Found::At(i);
+        }
+    }
+    Found::Nothing
+}
+
+// The key's committed cell with the greatest commit number that is at most the view, the lowest on a tie
+pub fn newest_seen(cells: &[u32], key: u32, view: u32) -> Cell
+    ensures { λ r. ⌜ r ≡ newestSeen key view (cellsOf (now (cells .entry))) ⌝ }
+{
+    let n = count(cells);
+    let mut best = Cell::none();
+    let mut i = 0;
+    while i < n {
+        let c = cell_at(cells, i);
+        i += 1;
+        if c.visible(key, view) & (best.commit < c.commit) {
+            best = c;
+        }
+    }
+    best
+}
+
+// Whether the key has a foreign cell or a committed cell with a commit number above the view
+pub fn conflicts(cells: &[u32], key: u32, number: u32, view: u32) -> bool
+    ensures { λ r. ⌜ r ≡ conflict key number view (cellsOf (now (cells .entry))) ⌝ }
+{
+    let n = count(cells);
+    for i in 0..n {
+        let c = cell_at(cells, i);
+        if c.blocks(key, number, view) {
+            return true;
+        }
+    }
+    false
+}
+
+// Whether a foreign cell of the key has the other number
+pub fn foreign_with(cells: &[u32], key: u32, number: u32, other: u32) -> bool
+    ensures { λ r. ⌜ r ≡ foreignWith key number other (cellsOf (now (cells .entry))) ⌝ }
+{
+    let n = count(cells);
+    for i in 0..n {
+        let c = cell_at(cells, i);
+        if c.foreign_of(key, number, other) {
+            return true;
+        }
+    }
+    false
+}
+
+// Whether the cell's key has a committed cell with a number above the cell's
+pub fn outdated(cells: &[u32], c: Cell) -> bool
+    ensures { λ r. ⌜ r ≡ hasCell (newer c) (cellsOf (now (cells .entry))) ⌝ }
+{
+    let n = count(cells);
+    for i in 0..n {
+        let d = cell_at(cells, i);
+        if c.newer(d) {
+            return true;
+        }
+    }
+    false
+}
+
+// Whether a view keeps the cell: it is at least the cell's number, and sees no newer one
+pub fn kept(cells: &[u32], c: Cell, view: u32) -> bool
+    ensures { λ r. ⌜ r ≡ keeps (cellsOf (now (cells .entry))) c view ⌝ }
+{
+    if view < c.commit {
+        return false;
+    }
+    let n = count(cells);
+    for i in 0..n {
+        let d = cell_at(cells, i);
+        if c.between(d, view) {
+            return false;
+        }
+    }
+    true
+}
+
+// Every own cell takes the commit number
+pub fn stamp(cells: &mut [u32], number: u32, commit: u32)
+    ensures { λ r. ⌜ now (cells .exit) ≡ withCells (now (cells .entry)) (map (stamped number commit) (cellsOf (now (cells .entry)))) ⌝ }
+{
+    let n = count(cells);
+    for i in 0..n {
+        let c = cell_at(cells, i);
+        if c.own(number) {
+            put_cell(cells, i, c.stamped(number, commit));
+        }
+    }
+}
+
+// Every own cell becomes four zeros
+pub fn wipe(cells: &mut [u32], number: u32)
+    ensures { λ r. ⌜ now (cells .exit) ≡ withCells (now (cells .entry)) (map (wiped number) (cellsOf (now (cells .entry)))) ⌝ }
+{
+    let n = count(cells);
+    for i in 0..n {
+        let c = cell_at(cells, i);
+        if c.own(number) {
+            put_cell(cells, i, c.wiped(number));
+        }
+    }
 }

@@ -1,0 +1,232 @@
+-- The input served in any pieces is the input served whole: `pieces`.
+--     piece    one piece: its answers, then what the rest comes to from there
+--     roomy    room for all the answers, or more of it, is the same to serving
+-- Assumes nothing.
+use mathlib.Core.Path.{_≡_, refl, sym, ap, _∙_, subst⁻¹}
+use mathlib.Core.Logic.{⊎-elim}
+use mathlib.Core.Bool.{Bool, true, false, cond, false≢true}
+use mathlib.Core.List.{List, [], _∷_, _++_, append-assoc, append-nil, flatten}
+use Prim.Native.Nat.{ℕ, zero, suc, _+_, _*_, _/_, _≤_, _<_, min}
+use native.Mathlib.Nat.{eq-or-lt-of-le, add-left-cancel}
+use native.Mathlib.Omega.{arith}
+use lib.Dec.{eqb, ltb, leb, eqb·suc-zero, eqb·zero-suc}
+use lib.ListN.{length, drop, length-append, length-drop}
+use lib.Seq.{drop-append-le}
+use borrow.Author.Tests.{lt-ltb, le-ltb, le-leb, eq-eqb, ne-eqb, eqb-true, eqb-false}
+use Rattle.records.specs.declared.Call.{Call}
+use Rattle.records.specs.declared.Reply.{Reply}
+use Rattle.records.specs.Format.{callBytes, answerBytes, answerRecord}
+use Rattle.steps.specs.declared.Board.{Board}
+use Rattle.lanes.specs.declared.Stop.{Stop}
+use Rattle.lanes.specs.Serve.{noCall, callsIn, Run, runOf, recordsOf, wholeCalls, tried, refused, stopOf, Service, serveFirst, serveOf}
+use Rattle.lanes.specs.Desk.{answersTo, deskOf, deskWords, serveAll, atEnd, goesOn, inPieces}
+use Rattle.steps.specs.Record.{freshBoard}
+use Rattle.lanes.proofs.Calls.{callsIn-front, callsIn-at-most, callsIn-all, callsIn-stop, run-replies, records-append}
+
+-- room for all the answers, or more of it, is the same to serving
+all-tried : (bytes : List ℕ) (room : ℕ) → answerBytes * wholeCalls bytes ≤ room → tried bytes room ≡ wholeCalls bytes
+all-tried bytes room h = omega arith
+
+all-served : (b : Board) (ws bytes : List ℕ) (room : ℕ) → answerBytes * wholeCalls bytes ≤ room
+    → serveOf b ws bytes room ≡ serveFirst (wholeCalls bytes) b ws bytes
+unfolding serveOf
+all-served b ws bytes room h = ap (λ (records : ℕ). serveFirst records b ws bytes) (all-tried bytes room h)
+
+pub roomy : (b : Board) (ws bytes : List ℕ) (room : ℕ) → answerBytes * wholeCalls bytes ≤ room
+    → serveOf b ws bytes room ≡ serveAll b ws bytes
+roomy b ws bytes room h =
+    all-served b ws bytes room h ∙ sym (all-served b ws bytes (answerBytes * wholeCalls bytes) (omega arith))
+
+-- two tests of what is left after the same stretch
+eqb-add : (a x y : ℕ) → eqb (a + x) (a + y) ≡ eqb x y
+eqb-add a x y = go (eqb x y) refl
+  where
+    go : (t : Bool) → eqb x y ≡ t → eqb (a + x) (a + y) ≡ t
+    go true e = eq-eqb (a + x) (a + y) (ap (λ (n : ℕ). a + n) (eqb-true x y e))
+    go false e = ne-eqb (a + x) (a + y) (λ h. eqb-false x y e (add-left-cancel a h))
+
+-- the calls in the whole records, and the bytes behind the last whole record
+abbrev callsOf : List ℕ → List Call
+callsOf bytes = callsIn (wholeCalls bytes) bytes
+
+abbrev leftOf : List ℕ → List ℕ
+leftOf bytes = drop (callBytes * wholeCalls bytes) bytes
+
+-- one piece, and what stands behind it
+module _ (bytes more : List ℕ) where
+  left-long : length (leftOf bytes ++ more) + callBytes * wholeCalls bytes ≡ length (bytes ++ more)
+  left-long =
+      omega (arith, length-append bytes more, length-append (leftOf bytes) more, length-drop (callBytes * wholeCalls bytes) bytes)
+
+  together : wholeCalls (bytes ++ more) ≡ wholeCalls bytes + wholeCalls (leftOf bytes ++ more)
+  together = omega (arith, left-long)
+
+  front : callsIn (wholeCalls bytes) (bytes ++ more) ≡ callsOf bytes
+  front = callsIn-front (wholeCalls bytes) bytes more (omega arith)
+
+  behind : drop (callBytes * wholeCalls bytes) (bytes ++ more) ≡ leftOf bytes ++ more
+  behind = drop-append-le (callBytes * wholeCalls bytes) bytes more (omega arith)
+
+  -- every record of the piece is a call: reading goes on with what is left
+  goes-on : length (callsOf bytes) ≡ wholeCalls bytes → callsOf (bytes ++ more) ≡ callsOf bytes ++ callsOf (leftOf bytes ++ more)
+  goes-on e =
+      ap (λ (n : ℕ). callsIn n (bytes ++ more)) together
+      ∙ callsIn-all (wholeCalls bytes) (wholeCalls (leftOf bytes ++ more)) (bytes ++ more) (ap length front ∙ e)
+      ∙ (λ i. front i ++ callsIn (wholeCalls (leftOf bytes ++ more)) (behind i))
+
+  -- one of them is no call: nothing behind it is read
+  stops : length (callsOf bytes) < wholeCalls bytes → callsOf (bytes ++ more) ≡ callsOf bytes
+  stops h =
+      let less : length (callsIn (wholeCalls bytes) (bytes ++ more)) < wholeCalls bytes = rw front h in
+      ap (λ (n : ℕ). callsIn n (bytes ++ more)) together
+      ∙ callsIn-stop (wholeCalls bytes) (wholeCalls (leftOf bytes ++ more)) (bytes ++ more) less
+      ∙ front
+
+-- RECORD at the end of what was read, where the calls do not take it all up
+abbrev cutOff : List Call → List ℕ → List ℕ
+cutOff calls input = cond (eqb (callBytes * length calls) (length input)) [] (answerRecord noCall)
+
+-- what the input comes to once a piece of it is served
+abbrev afterPiece : List ℕ → List ℕ → Service → List ℕ
+afterPiece bytes more s =
+    s .answers ++ cond (goesOn (s .stop)) (answersTo (s .board) (s .words) (drop (s .taken) bytes ++ more)) []
+
+module _ (b : Board) (ws bytes more : List ℕ) where
+  abbrev calls : List Call
+  calls = callsOf bytes
+
+  abbrev run : Run
+  run = runOf b ws calls
+
+  cut-same : length calls ≡ wholeCalls bytes
+      → cutOff (calls ++ callsOf (leftOf bytes ++ more)) (bytes ++ more) ≡ cutOff (callsOf (leftOf bytes ++ more)) (leftOf bytes ++ more)
+  cut-same e =
+      let l : List Call = callsOf (leftOf bytes ++ more) in
+      let a : callBytes * length (calls ++ l) ≡ callBytes * wholeCalls bytes + callBytes * length l =
+      omega (arith, length-append calls l) in
+      let z : length (bytes ++ more) ≡ callBytes * wholeCalls bytes + length (leftOf bytes ++ more) =
+      omega (arith, left-long bytes more) in
+      let t : eqb (callBytes * length (calls ++ l)) (length (bytes ++ more))
+      ≡ eqb (callBytes * length l) (length (leftOf bytes ++ more)) =
+      (λ i. eqb (a i) (z i)) ∙ eqb-add (callBytes * wholeCalls bytes) (callBytes * length l) (length (leftOf bytes ++ more)) in
+      ap (λ (u : Bool). cond u [] (answerRecord noCall)) t
+
+  served-all : length calls ≡ wholeCalls bytes
+      → serveFirst (wholeCalls bytes) b ws bytes
+      ≡ record {
+        board = run .board;
+        words = run .words;
+        answers = recordsOf (run .replies);
+        taken = callBytes * wholeCalls bytes;
+        stop = Stop.End;
+      }
+  unfolding serveFirst
+  served-all e =
+      let good : ltb (length calls) (wholeCalls bytes) ≡ false = le-ltb (length calls) (wholeCalls bytes) (omega arith) in
+      let last : leb (wholeCalls bytes) (wholeCalls bytes) ≡ true = le-leb (wholeCalls bytes) (wholeCalls bytes) (omega arith) in
+      let plain : recordsOf (run .replies) ++ refused (length calls) (wholeCalls bytes) ≡ recordsOf (run .replies) =
+      ap (λ (t : Bool). recordsOf (run .replies) ++ cond t (answerRecord noCall) []) good ∙ append-nil (recordsOf (run .replies)) in
+      λ i. record {
+        board = run .board;
+        words = run .words;
+        answers = plain i;
+        taken = callBytes * e i;
+        stop = cond (good i) Stop.Record (cond (last i) Stop.End Stop.Room);
+      }
+
+  served-stop : length calls < wholeCalls bytes
+      → serveFirst (wholeCalls bytes) b ws bytes
+      ≡ record {
+        board = run .board;
+        words = run .words;
+        answers = recordsOf (run .replies) ++ answerRecord noCall;
+        taken = callBytes * length calls;
+        stop = Stop.Record;
+      }
+  unfolding serveFirst
+  served-stop h =
+      let bad : ltb (length calls) (wholeCalls bytes) ≡ true = lt-ltb (length calls) (wholeCalls bytes) h in
+      λ i. record {
+        board = run .board;
+        words = run .words;
+        answers = recordsOf (run .replies) ++ cond (bad i) (answerRecord noCall) [];
+        taken = callBytes * length calls;
+        stop = cond (bad i) Stop.Record (cond (leb (wholeCalls bytes) (wholeCalls bytes)) Stop.End Stop.Room);
+      }
+
+  piece-all : length calls ≡ wholeCalls bytes
+      → answersTo b ws (bytes ++ more) ≡ afterPiece bytes more (serveFirst (wholeCalls bytes) b ws bytes)
+  unfolding answersTo
+  piece-all e =
+      let l : List Call = callsOf (leftOf bytes ++ more) in
+      let replies : recordsOf (runOf b ws (calls ++ l) .replies)
+      ≡ recordsOf (run .replies) ++ recordsOf (runOf (run .board) (run .words) l .replies) =
+      ap recordsOf (run-replies b ws calls l) ∙ records-append (run .replies) (runOf (run .board) (run .words) l .replies) in
+      ap (λ (m : List Call). recordsOf (runOf b ws m .replies) ++ cutOff m (bytes ++ more)) (goes-on bytes more e)
+      ∙ (λ i. replies i ++ cut-same e i)
+      ∙ append-assoc (recordsOf (run .replies)) (recordsOf (runOf (run .board) (run .words) l .replies)) (cutOff l (leftOf bytes ++ more))
+      ∙ ap (afterPiece bytes more) (sym (served-all e))
+
+  piece-stop : length calls < wholeCalls bytes
+      → answersTo b ws (bytes ++ more) ≡ afterPiece bytes more (serveFirst (wholeCalls bytes) b ws bytes)
+  unfolding answersTo
+  piece-stop h =
+      let short : eqb (callBytes * length calls) (length (bytes ++ more)) ≡ false =
+      ne-eqb (callBytes * length calls) (length (bytes ++ more)) (λ e. omega (arith, length-append bytes more)) in
+      ap (λ (m : List Call). recordsOf (runOf b ws m .replies) ++ cutOff m (bytes ++ more)) (stops bytes more h)
+      ∙ ap (λ (t : Bool). recordsOf (run .replies) ++ cond t [] (answerRecord noCall)) short
+      ∙ sym (append-nil (recordsOf (run .replies) ++ answerRecord noCall))
+      ∙ ap (afterPiece bytes more) (sym (served-stop h))
+
+  -- one piece: its answers, then what the rest comes to from there
+  pub piece : answersTo b ws (bytes ++ more) ≡ afterPiece bytes more (serveAll b ws bytes)
+  piece =
+      ⊎-elim piece-all piece-stop (eq-or-lt-of-le (callsIn-at-most (wholeCalls bytes) bytes))
+      ∙ ap (afterPiece bytes more) (sym (all-served b ws bytes (answerBytes * wholeCalls bytes) (omega arith)))
+
+-- what is left of a piece is less than a record
+abbrev LeftShort : List ℕ → Service → Type 0
+LeftShort bytes s = goesOn (s .stop) ≡ true → length (drop (s .taken) bytes) < callBytes
+
+left-short : (b : Board) (ws bytes : List ℕ) → LeftShort bytes (serveAll b ws bytes)
+left-short b ws bytes =
+    subst⁻¹ (LeftShort bytes) (all-served b ws bytes (answerBytes * wholeCalls bytes) (omega arith))
+    (⊎-elim
+    (λ e. subst⁻¹ (LeftShort bytes) (served-all b ws bytes [] e)
+    (λ t. omega (arith, length-drop (callBytes * wholeCalls bytes) bytes)))
+    (λ h. subst⁻¹ (LeftShort bytes) (served-stop b ws bytes [] h) (λ t. absurd (false≢true t)))
+    (eq-or-lt-of-le (callsIn-at-most (wholeCalls bytes) bytes)))
+
+cond-same : (t : Bool) (x y : List ℕ) → (t ≡ true → x ≡ y) → cond t x [] ≡ cond t y []
+cond-same true x y f = f refl
+cond-same false x y f = refl
+
+cond-flip : (n : ℕ) → cond (eqb n 0) [] (answerRecord noCall) ≡ cond (eqb 0 n) [] (answerRecord noCall)
+cond-flip zero = refl
+cond-flip (suc n) = ap (λ (t : Bool). cond t [] (answerRecord noCall)) (eqb·suc-zero n ∙ sym (eqb·zero-suc n))
+
+ends : (b : Board) (ws cut : List ℕ) → length cut < callBytes → atEnd cut ≡ answersTo b ws (cut ++ [])
+unfolding answersTo callsIn runOf recordsOf
+ends b ws cut h =
+    let none : wholeCalls cut ≡ 0 = omega arith in
+    cond-flip (length cut)
+    ∙ ap (λ (n : ℕ). recordsOf (runOf b ws (callsIn n cut) .replies) ++ cutOff (callsIn n cut) cut) (sym none)
+    ∙ ap (answersTo b ws) (sym (append-nil cut))
+
+pub in-pieces : (b : Board) (ws cut : List ℕ) (ps : List (List ℕ)) → length cut < callBytes
+    → inPieces b ws cut ps ≡ answersTo b ws (cut ++ flatten ps)
+unfolding inPieces flatten
+in-pieces b ws cut [] h = ends b ws cut h
+in-pieces b ws cut (p ∷ ps) h =
+    let s : Service = serveAll b ws (cut ++ p) in
+    let left : List ℕ = drop (s .taken) (cut ++ p) in
+    ap (λ (l : List ℕ). s .answers ++ l)
+    (cond-same (goesOn (s .stop)) (inPieces (s .board) (s .words) left ps) (answersTo (s .board) (s .words) (left ++ flatten ps))
+    (λ t. in-pieces (s .board) (s .words) left ps (left-short b ws (cut ++ p) t)))
+    ∙ sym (piece b ws (cut ++ p) (flatten ps))
+    ∙ ap (answersTo b ws) (append-assoc cut p (flatten ps))
+
+-- the input served in any pieces is the input served whole
+pub pieces : (ps : List (List ℕ)) → inPieces freshBoard deskWords [] ps ≡ deskOf (flatten ps)
+unfolding deskOf
+pieces ps = in-pieces freshBoard deskWords [] ps (omega arith)
