@@ -8,7 +8,7 @@ use mathlib.Core.Path.{_≡_, refl, sym, ap, _∙_, subst}
 use mathlib.Core.Bool.{Bool, true, false, _&&_, and-assoc, false≢true}
 use mathlib.Core.List.{List, [], _∷_, _++_, append-assoc, append-nil}
 use Prim.Native.Nat.{ℕ, zero, suc, _+_, _*_, _-_, _/_, _%_, _^_, _≤_, _<_}
-use native.Mathlib.Nat.{le-of-suc-le-suc, not-suc-le-zero, pow-suc, pow-zero, zero-add}
+use native.Mathlib.Nat.{pow-suc, pow-zero, zero-add}
 use native.Mathlib.Omega.{arith}
 use borrow.Author.Tests.{eqb-true, eq-eqb, leb-true, le-leb}
 use lib.Dec.{eqb, leb}
@@ -31,11 +31,6 @@ pub same-test : (s t : Bool) → (s ≡ true → t ≡ true) → (t ≡ true →
 same-test true t f g = sym (f refl)
 same-test false true f g = g refl
 same-test false false f g = refl
-
--- a test that cannot pass fails
-pub not-passed : (t : Bool) → (t ≡ true → ⊥) → t ≡ false
-not-passed true h = absurd (h refl)
-not-passed false h = refl
 
 pub and-left : (a b : Bool) → (a && b) ≡ true → a ≡ true
 and-left true b e = refl
@@ -147,10 +142,6 @@ gets-all (suc k) l i h = (h i, gets-all k l (suc i) h)
 pub gets-length : (k : ℕ) (l : List ℕ) (i : ℕ) → length (gets k l i) ≡ k
 gets-length zero l i = refl
 gets-length (suc k) l i = ap suc (gets-length k l (suc i))
-
--- bytes of other lengths are not the same
-pub same-apart : (a b : List ℕ) → (length a ≡ length b → ⊥) → sameBytes a b ≡ false
-same-apart a b h = not-passed (sameBytes a b) (λ e. h (ap length (same-equal a b e)))
 
 -- the part from an offset on, as it is lent
 pub part-rest : (l : List ℕ) (i : ℕ) → take (length l - i) (drop i l) ≡ drop i l

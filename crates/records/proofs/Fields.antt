@@ -1,15 +1,15 @@
 -- What the code looks at in a record is what the format says of its bytes: mark, number and place byte, then the numbers behind them.
 -- Assumes nothing.
 use mathlib.Core.Path.{_≡_, refl, sym, ap, _∙_, subst}
-use mathlib.Core.Bool.{Bool, true, false, cond, _&&_, and-assoc}
+use mathlib.Core.Bool.{Bool, true, cond, _&&_, and-assoc}
 use mathlib.Core.List.{List, [], _∷_, _++_}
-use mathlib.Core.Logic.{_⊎_, inl, inr, ⊎-elim}
-use Prim.Native.Nat.{ℕ, zero, suc, _+_, _*_, _%_, _^_, _≤_, _<_}
+use mathlib.Core.Logic.{_⊎_, ⊎-elim}
+use Prim.Native.Nat.{ℕ, zero, suc, _+_, _%_, _^_, _≤_, _<_}
 use native.Mathlib.Nat.{eq-zero-or-pos}
 use native.Mathlib.Omega.{arith}
 use borrow.Author.Tests.{eq-eqb}
 use lib.Dec.{eqb, leb}
-use lib.ListN.{length, getD, take, drop, length-take, length-drop, List·getD-eq-default}
+use lib.ListN.{length, getD, take, drop, List·getD-eq-default}
 use Rattle.records.specs.declared.Answer.{Answer}
 use Rattle.records.specs.declared.AnswerRead.{AnswerRead}
 use Rattle.records.specs.declared.Call.{Call}
@@ -17,9 +17,9 @@ use Rattle.records.specs.declared.CallRead.{CallRead}
 use Rattle.records.specs.Answers.{numberOf, valueOf, placeOf}
 use Rattle.records.specs.declared.Reply.{Reply}
 use Rattle.records.specs.Format.{callBytes, bytesOf, numberIn, sameBytes, kindOf, keyOf, newValueOf, callsOf, callOf, callRecord, callFrom}
-use Rattle.records.specs.Format.{callIn, callAt, answerBytes, answersOf, answerOf, answerRecord, replyFrom, answerIn, answerAt}
+use Rattle.records.specs.Format.{callIn, answerBytes, answersOf, answerOf, answerRecord, replyFrom, answerIn}
 use Rattle.records.specs.Format.{putAt, wrote, written}
-use Rattle.records.proofs.Bytes.{gets, part-gets, same-number, same-append, gets-all, gets-length, number-below, same-apart}
+use Rattle.records.proofs.Bytes.{gets, part-gets, same-number, same-append, gets-all, gets-length, number-below}
 
 -- a number that is no kind, and one that is no answer's
 pub no-kind : (kind place key value : ℕ) → (kind ≡ 1 → ⊥) → (kind ≡ 2 → ⊥) → (kind ≡ 3 → ⊥) → (kind ≡ 4 → ⊥) → (kind ≡ 5 → ⊥) →
@@ -47,16 +47,16 @@ all-at P (x ∷ l) d h z zero = h .0
 all-at P (x ∷ l) d h z (suc i) = all-at P l d (h .1) z i
 
 -- of numbers that go into their bytes a call is made whose numbers do, and so an answer
-abbrev Small : ℕ → Call → Type 0
+abbrev pub Small : ℕ → Call → Type 0
 Small place c = (placeOf c ≡ place) × ((keyOf c < 256 ^ 2) × (newValueOf c < 256 ^ 4))
 
-call-small : (kind place key value : ℕ) → key < 256 ^ 2 → value < 256 ^ 4 → Small place (callOf kind place key value)
+pub call-small : (kind place key value : ℕ) → key < 256 ^ 2 → value < 256 ^ 4 → Small place (callOf kind place key value)
 call-small kind place key value k v =
     let none : Small place (Call.Start place) = (refl, (omega arith, omega arith)) in
     let keyed : Small place (Call.Read place key) = (refl, (k, omega arith)) in
     all-at (Small place) (callsOf place key value) (Call.Rollback place) (none, (none, (keyed, ((refl, (k, v)), (none, (none, tt)))))) none kind
 
-answer-small : (number value : ℕ) → value < 256 ^ 4 → valueOf (answerOf number value) < 256 ^ 4
+pub answer-small : (number value : ℕ) → value < 256 ^ 4 → valueOf (answerOf number value) < 256 ^ 4
 answer-small number value v =
     let z : 0 < 256 ^ 4 = omega arith in
     all-at (λ (a : Answer). valueOf a < 256 ^ 4) (answersOf value) Answer.Record
@@ -142,7 +142,7 @@ module _ (s : List ℕ) (byte : (i : ℕ) → getD s i 0 < 256) where
       let found : cond t (AnswerRead.Good (record { place = place; answer = a })) AnswerRead.Record ≡ answerIn (gets 8 s 0) = cc in
       found ∙ sym (ap answerIn (part-gets 8 s 0 h))
 
--- a record has ten bytes, or eight, so fewer bytes from an offset on are none
+-- a call's record has ten bytes, an answer's eight
 pub call-length : (c : Call) → length (callRecord c) ≡ callBytes
 unfolding callRecord
 call-length c = refl
@@ -150,22 +150,6 @@ call-length c = refl
 pub answer-length : (r : Reply) → length (answerRecord r) ≡ answerBytes
 unfolding answerRecord
 answer-length r = refl
-
-short : (k at : ℕ) (bs rec : List ℕ) → 0 < k → length bs < at + k → length rec ≡ k → sameBytes (take k (drop at bs)) rec ≡ false
-short k at bs rec p h e =
-    same-apart (take k (drop at bs)) rec (λ f. omega (arith, length-take k (drop at bs), length-drop at bs))
-
-pub call-short : (bs : List ℕ) (at : ℕ) → length bs < at + callBytes → callAt bs at ≡ CallRead.Record
-unfolding callAt callIn
-call-short bs at h =
-    let part : List ℕ = take callBytes (drop at bs) in
-    rw (short callBytes at bs (callRecord (callFrom part)) (omega arith) h (call-length (callFrom part)))
-
-pub answer-short : (bs : List ℕ) (at : ℕ) → length bs < at + answerBytes → answerAt bs at ≡ AnswerRead.Record
-unfolding answerAt answerIn
-answer-short bs at h =
-    let part : List ℕ = take answerBytes (drop at bs) in
-    rw (short answerBytes at bs (answerRecord (replyFrom part)) (omega arith) h (answer-length (replyFrom part)))
 
 -- what writing a record of n bytes gives, from what the code has tested
 pub as-written : (bs : List ℕ) (at : ℕ) (rec : List ℕ) {has fits room t : Bool} {n : ℕ} → length rec ≡ n → fits ≡ has →

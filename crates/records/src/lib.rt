@@ -411,7 +411,9 @@ fn two(s: &[u8], at: usize) -> u32
     requires { ⌜ at + 2 ≤ length (now s) ⌝ }
     ensures { λ r. ⌜ (r ≡ numberIn (take 2 (drop at (now (s .entry))))) × (r < 65536) ⌝ }
 {
-    wide(s[at]) + 256 * wide(s[at + 1])
+    let first = wide(s[at]);
+    let second = wide(s[at + 1]);
+    first + 256 * second
 }
 
 // A byte as a number.

@@ -1,8 +1,8 @@
-use mathlib.Core.Path.{_≡_, refl, ap, _∙_}
+use mathlib.Core.Path.{refl, _∙_}
 use Prim.Native.Nat.{ℕ}
-use mathlib.Core.List.{List, [], _∷_, _++_}
+use mathlib.Core.List.{List, _∷_, _++_}
 use native.Mathlib.Omega.{arith}
-use Rattle.records.specs.Format.{bytesOf, putAt, callRecord}
+use Rattle.records.specs.Format.{bytesOf, callRecord}
 use Rattle.records.proofs.Bytes.{lent-next}
 use borrow.Author.Needs.{needs}
 use Rattle.records.proofs.put_call.Statement.{statement}

@@ -1,10 +1,9 @@
 use mathlib.Core.Path.{_≡_, sym, ap, _∙_}
-use mathlib.Core.Bool.{_&&_}
 use mathlib.Core.List.{List}
 use Prim.Native.Nat.{ℕ, _+_, _≤_}
 use native.Mathlib.Omega.{arith}
 use borrow.Author.Tests.{leb-true}
-use lib.ListN.{length, take, length-take, length-drop}
+use lib.ListN.{length, length-drop}
 use Rattle.records.specs.declared.Answer.{Answer}
 use Rattle.records.specs.Format.{replyFits, answerRecord, wrote, writtenAnswer}
 use Rattle.records.proofs.Bytes.{part-rest, put-part, and-right}
