@@ -1,18 +1,15 @@
 -- What the records promise, for every run of bytes, every offset, and every call and answer:
---     call-reads, answer-reads            read exactly where the record of one that has a record stands
---     call-none, answer-none              RECORD exactly where no such record stands
---     call-writes, answer-writes          OK exactly for one that has a record, with room for it
---     call-kept, answer-kept              otherwise RECORD, and no byte changes
---     call-other, answer-other            every byte outside the record is as it was
---     call-returns, answer-returns        written and then read at the same offset: the same
---     call-again, answer-again            read and then written at the same offset: the same bytes
---     call-behind, answer-behind          what stands behind the record is not looked at
---     answer-case                         number and value determine the case of an answer
---     written-once, read-once             two outcomes that meet a contract are the same
+--     Promises           what is promised of one kind of record: read exactly where it stands, written exactly where it can be,
+--                        written then read the same, read then written the same bytes, every other byte as it was
+--     calls, answers     the promises of both
+--     answer-case        number and value determine the case of an answer
+--     written-once       two outcomes of writing that meet the contract are the same
+--     read-once          two results that meet an equation are the same
+--     example-..         document 01's whole example, byte for byte
 -- Assumes nothing.
 use mathlib.Core.Path.{_≡_, refl, sym, ap, _∙_, subst}
 use mathlib.Core.Bool.{Bool, true, false, cond, _&&_, and-false}
-use mathlib.Core.List.{List, _++_}
+use mathlib.Core.List.{List, [], _∷_, _++_}
 use mathlib.Core.Logic.{_⊎_, inl, inr, ⊎-elim, _↔_}
 use Prim.Native.Nat.{ℕ, _+_, _%_, _^_, _≤_, _<_}
 use native.Mathlib.Omega.{arith}
@@ -29,22 +26,19 @@ use Rattle.records.specs.Answers.{numberOf, valueOf, placeOf}
 use Rattle.records.specs.Format.{callBytes, kindOf, keyOf, newValueOf, callFits, callOf, callRecord, callFrom, callIn, callAt}
 use Rattle.records.specs.Format.{answerBytes, replyFits, answerOf, answerRecord, replyFrom, answerIn, answerAt}
 use Rattle.records.specs.Format.{bytesOf, numberIn, sameBytes, goesIn, putAt, Written, wrote, written, writtenCall, writtenAnswer}
-use Rattle.records.proofs.Bytes.{and-left, and-right, same-equal, same-self, number-bytes, number-below, bytes-all, bytes-length}
+use Rattle.records.proofs.Bytes.{both, and-left, and-right, same-equal, same-self, bytes-back, bytes-below, bytes-all, bytes-length}
 use Rattle.records.proofs.Bytes.{put-there, put-before, put-behind, put-length, put-same}
 use Rattle.records.proofs.Fields.{Small, call-small, answer-small, call-length, answer-length}
-
-both : {a b : Bool} → a ≡ true → b ≡ true → (a && b) ≡ true
-both p q = cc
 
 -- THE NUMBERS OF A RECORD
 
 -- a number in k bytes is one that goes into them
 number-goes : (k n : ℕ) → numberIn (bytesOf k n) < 256 ^ k
 number-goes k n =
-    subst (λ (j : ℕ). numberIn (bytesOf k n) < 256 ^ j) (bytes-length k n) (number-below (bytesOf k n) (bytes-all k n))
+    subst (λ (j : ℕ). numberIn (bytesOf k n) < 256 ^ j) (bytes-length k n) (bytes-below (bytesOf k n) (bytes-all k n))
 
 number-back : (k n : ℕ) → goesIn k n ≡ true → numberIn (bytesOf k n) ≡ n
-number-back k n h = number-bytes k n (ltb-true n (256 ^ k) h)
+number-back k n h = bytes-back k n (ltb-true n (256 ^ k) h)
 
 -- a call is the one that its own kind, place, key and value name
 call-case : (c : Call) → callOf (kindOf c) (placeOf c) (keyOf c) (newValueOf c) ≡ c
@@ -89,7 +83,8 @@ call-sound : (c : Call) → callFits (callFrom (callRecord c)) ≡ true
 unfolding callFrom callRecord
 call-sound c =
     let d : Call = callOf (kindOf c) (placeOf c % 256) (numberIn (bytesOf 2 (keyOf c))) (numberIn (bytesOf 4 (newValueOf c))) in
-    let small : Small (placeOf c % 256) d = call-small (kindOf c) (placeOf c % 256) _ _ (number-goes 2 (keyOf c)) (number-goes 4 (newValueOf c)) in
+    let small : Small (placeOf c % 256) d =
+    call-small (kindOf c) (placeOf c % 256) _ _ (number-goes 2 (keyOf c)) (number-goes 4 (newValueOf c)) in
     both (lt-ltb (placeOf d) (256 ^ 1) (omega (arith, small .0)))
     (both (lt-ltb (keyOf d) (256 ^ 2) (small .1 .0)) (lt-ltb (newValueOf d) (256 ^ 4) (small .1 .1)))
 
@@ -107,77 +102,77 @@ reply-sound : (r : Reply) → replyFits (replyFrom (answerRecord r)) ≡ true
 unfolding replyFrom answerRecord
 reply-sound r =
     let n : ℕ = numberIn (bytesOf 4 (valueOf (r .answer))) in
+    let small = answer-small (numberOf (r .answer)) n (number-goes 4 (valueOf (r .answer))) in
     both (lt-ltb (r .place % 256) (256 ^ 1) (omega arith))
-    (lt-ltb (valueOf (answerOf (numberOf (r .answer)) n)) (256 ^ 4) (answer-small (numberOf (r .answer)) n (number-goes 4 (valueOf (r .answer)))))
+    (lt-ltb (valueOf (answerOf (numberOf (r .answer)) n)) (256 ^ 4) small)
 
 -- READING AND WRITING
 
--- What is promised of one kind of record: of its size, of which values have a record, of the record, of what reading finds and what writing gives.
+-- what is promised of one kind of record: of its size, which values have one, what it is, what reading finds and writing gives
 pub record Promises {A R : Type 0} (size : ℕ) (has : A → Bool) (rec : A → List ℕ) (good : A → R) (none : R)
     (readAt : List ℕ → ℕ → R) (writtenAt : List ℕ → ℕ → A → Written) : Type 0 where
   -- each record has this many bytes, and no two values that have a record have the same
   pub long : (a : A) → length (rec a) ≡ size
   pub one : (a b : A) → has a ≡ true → has b ≡ true → rec a ≡ rec b → a ≡ b
   -- reading finds a value exactly if it has a record and that stands from the offset on
-  pub reads : (bs : List ℕ) (at : ℕ) (a : A) → (readAt bs at ≡ good a) ↔ ((has a ≡ true) × (take size (drop at bs) ≡ rec a))
+  pub reads : (bs : List ℕ) (at : ℕ) (a : A) →
+      (readAt bs at ≡ good a) ↔ ((has a ≡ true) × (take size (drop at bs) ≡ rec a))
   -- and RECORD exactly if no record stands there
-  pub refuses : (bs : List ℕ) (at : ℕ) → (readAt bs at ≡ none) ↔ ((a : A) → has a ≡ true → take size (drop at bs) ≡ rec a → ⊥)
+  pub refuses : (bs : List ℕ) (at : ℕ) →
+      (readAt bs at ≡ none) ↔ ((a : A) → has a ≡ true → take size (drop at bs) ≡ rec a → ⊥)
   -- so at an offset with too few bytes from there on, at the end and past it
   pub short : (bs : List ℕ) (at : ℕ) → length bs < at + size → readAt bs at ≡ none
   -- what stands behind the record is not looked at
   pub behind : (bs more : List ℕ) (at : ℕ) → at + size ≤ length bs → readAt (bs ++ more) at ≡ readAt bs at
   -- writing is done exactly if the value has a record and there is room for it
-  pub writes : (bs : List ℕ) (at : ℕ) (a : A) → (writtenAt bs at a .number ≡ 0) ↔ ((has a ≡ true) × (at + size ≤ length bs))
+  pub writes : (bs : List ℕ) (at : ℕ) (a : A) →
+      (writtenAt bs at a .number ≡ 0) ↔ ((has a ≡ true) × (at + size ≤ length bs))
   -- otherwise the answer is RECORD and no byte changes
-  pub keeps : (bs : List ℕ) (at : ℕ) (a : A) → (has a ≡ false) ⊎ (length bs < at + size) → writtenAt bs at a ≡ wrote Answer.Record bs
+  pub keeps : (bs : List ℕ) (at : ℕ) (a : A) → (has a ≡ false) ⊎ (length bs < at + size) →
+      writtenAt bs at a ≡ wrote Answer.Record bs
   -- every byte outside the record is as it was, and there are as many
-  pub others : (bs : List ℕ) (at : ℕ) (a : A) (i : ℕ) → (i < at) ⊎ (at + size ≤ i) → getD (writtenAt bs at a .bytes) i 0 ≡ getD bs i 0
+  pub others : (bs : List ℕ) (at : ℕ) (a : A) (i : ℕ) → (i < at) ⊎ (at + size ≤ i) →
+      getD (writtenAt bs at a .bytes) i 0 ≡ getD bs i 0
   pub as-long : (bs : List ℕ) (at : ℕ) (a : A) → length (writtenAt bs at a .bytes) ≡ length bs
   -- written and then read at the same offset: the same value
-  pub returns : (bs : List ℕ) (at : ℕ) (a : A) → writtenAt bs at a .number ≡ 0 → readAt (writtenAt bs at a .bytes) at ≡ good a
+  pub returns : (bs : List ℕ) (at : ℕ) (a : A) → writtenAt bs at a .number ≡ 0 →
+      readAt (writtenAt bs at a .bytes) at ≡ good a
   -- read and then written at the same offset: the same bytes
   pub again : (bs : List ℕ) (at : ℕ) (a : A) → readAt bs at ≡ good a → writtenAt bs at a ≡ wrote (Answer.Ok 0) bs
 
 -- what writing gives, from its two tests
 module _ (has : Bool) (bs : List ℕ) (at : ℕ) (rec : List ℕ) where
-  abbrev test : Bool
-  test = has && leb (at + length rec) (length bs)
+  abbrev room : Bool
+  room = leb (at + length rec) (length bs)
 
-  passes : (t : Bool) → cond t (wrote (Answer.Ok 0) (putAt bs at rec)) (wrote Answer.Record bs) .number ≡ 0 → t ≡ true
-  passes true e = refl
-  passes false e = absurd (omega arith)
+  abbrev gives : Bool → Written
+  gives t = cond t (wrote (Answer.Ok 0) (putAt bs at rec)) (wrote Answer.Record bs)
+
+  either : (P : Written → Type 0) → (has ≡ true → at + length rec ≤ length bs → P (gives true)) → P (gives false) →
+      (t : Bool) → (has && room) ≡ t → P (gives t)
+  either P done left true e = done (and-left has room e) (leb-true (at + length rec) (length bs) (and-right has room e))
+  either P done left false e = left
 
   ok-to : written has bs at rec .number ≡ 0 → (has ≡ true) × (at + length rec ≤ length bs)
-  ok-to e =
-      let p = passes test e in (
-        and-left has (leb (at + length rec) (length bs)) p,
-        leb-true (at + length rec) (length bs) (and-right has (leb (at + length rec) (length bs)) p),
-      )
+  ok-to =
+      either (λ w. w .number ≡ 0 → (has ≡ true) × (at + length rec ≤ length bs))
+      (λ h fits e. (h, fits)) (λ e. absurd (omega arith)) (has && room) refl
 
   ok-from : has ≡ true → at + length rec ≤ length bs → written has bs at rec ≡ wrote (Answer.Ok 0) (putAt bs at rec)
-  ok-from h room = rw (h, le-leb (at + length rec) (length bs) room)
+  ok-from h fits = rw (h, le-leb (at + length rec) (length bs) fits)
 
   refused : (has ≡ false) ⊎ (length bs < at + length rec) → written has bs at rec ≡ wrote Answer.Record bs
   refused (inl h) = rw h
   refused (inr h) = rw (lt-leb (at + length rec) (length bs) h, and-false)
 
-  -- in both cases every byte outside the record is as it was, and there are as many
-  kept : (t : Bool) → test ≡ t → (i : ℕ) → (i < at) ⊎ (at + length rec ≤ i) →
-      getD (cond t (wrote (Answer.Ok 0) (putAt bs at rec)) (wrote Answer.Record bs) .bytes) i 0 ≡ getD bs i 0
-  kept true e i h =
-      let room = leb-true (at + length rec) (length bs) (and-right has (leb (at + length rec) (length bs)) e) in
-      ⊎-elim (put-before bs at rec room i) (put-behind bs at rec room i) h
-  kept false e i h = refl
-
   others : (i : ℕ) → (i < at) ⊎ (at + length rec ≤ i) → getD (written has bs at rec .bytes) i 0 ≡ getD bs i 0
-  others = kept test refl
-
-  sized : (t : Bool) → test ≡ t → length (cond t (wrote (Answer.Ok 0) (putAt bs at rec)) (wrote Answer.Record bs) .bytes) ≡ length bs
-  sized true e = put-length bs at rec (leb-true (at + length rec) (length bs) (and-right has (leb (at + length rec) (length bs)) e))
-  sized false e = refl
+  others i h =
+      either (λ w. getD (w .bytes) i 0 ≡ getD bs i 0)
+      (λ _ fits. ⊎-elim (put-before bs at rec fits i) (put-behind bs at rec fits i) h) refl (has && room) refl
 
   as-long : length (written has bs at rec .bytes) ≡ length bs
-  as-long = sized test refl
+  as-long =
+      either (λ w. length (w .bytes) ≡ length bs) (λ _ fits. put-length bs at rec fits) refl (has && room) refl
 
   -- where it is done, the record stands from the offset on
   stands : written has bs at rec .number ≡ 0 → take (length rec) (drop at (written has bs at rec .bytes)) ≡ rec
@@ -186,11 +181,12 @@ module _ (has : Bool) (bs : List ℕ) (at : ℕ) (rec : List ℕ) where
       rw (ok-from (ok .0) (ok .1)) (put-there bs at rec (ok .1))
 
   -- what stands there already stays
-  stays : 0 < length rec → has ≡ true → take (length rec) (drop at bs) ≡ rec → written has bs at rec ≡ wrote (Answer.Ok 0) bs
+  stays : 0 < length rec → has ≡ true → take (length rec) (drop at bs) ≡ rec →
+      written has bs at rec ≡ wrote (Answer.Ok 0) bs
   stays p h e =
-      let n : length (take (length rec) (drop at bs)) ≡ length rec = ap length e in
-      let room : at + length rec ≤ length bs = omega (arith, length-take (length rec) (drop at bs), length-drop at bs) in
-      ok-from h room ∙ ap (λ (l : List ℕ). wrote (Answer.Ok 0) l) (put-same bs at rec e)
+      let fits : at + length rec ≤ length bs =
+      omega (arith, ap length e, length-take (length rec) (drop at bs), length-drop at bs) in
+      ok-from h fits ∙ ap (λ (l : List ℕ). wrote (Answer.Ok 0) l) (put-same bs at rec e)
 
 -- the promises, from a record of at least one byte that leads back to its value, and that is led to from no other
 module _ {A R : Type 0} (size : ℕ) (has : A → Bool) (rec : A → List ℕ) (good : A → R) (none : R) (from : List ℕ → A)
@@ -206,8 +202,8 @@ module _ {A R : Type 0} (size : ℕ) (has : A → Bool) (rec : A → List ℕ) (
   abbrev writtenAt : List ℕ → ℕ → A → Written
   writtenAt bs at a = written (has a) bs at (rec a)
 
-  found-to : (bs : List ℕ) (a : A) (t : Bool) → sameBytes bs (rec (from bs)) ≡ t → cond t (good (from bs)) none ≡ good a →
-      (has a ≡ true) × (bs ≡ rec a)
+  found-to : (bs : List ℕ) (a : A) (t : Bool) → sameBytes bs (rec (from bs)) ≡ t →
+      cond t (good (from bs)) none ≡ good a → (has a ≡ true) × (bs ≡ rec a)
   found-to bs a true s e =
       let f : from bs ≡ a = same (from bs) a e in
       let r : bs ≡ rec (from bs) = same-equal bs (rec (from bs)) s in
@@ -217,20 +213,22 @@ module _ {A R : Type 0} (size : ℕ) (has : A → Bool) (rec : A → List ℕ) (
   found-from : (bs : List ℕ) (a : A) → has a ≡ true → bs ≡ rec a → found bs ≡ good a
   found-from bs a h e =
       let f : from bs ≡ a = ap from e ∙ back a h in
-      let s : sameBytes bs (rec (from bs)) ≡ true = ap (λ (b : List ℕ). sameBytes bs b) (ap rec f ∙ sym e) ∙ same-self bs in
+      let s = ap (λ (b : List ℕ). sameBytes bs b) (ap rec f ∙ sym e) ∙ same-self bs in
       ap (λ (t : Bool). cond t (good (from bs)) none) s ∙ ap good f
 
-  none-from : (bs : List ℕ) (t : Bool) → sameBytes bs (rec (from bs)) ≡ t → ((a : A) → has a ≡ true → bs ≡ rec a → ⊥) →
-      cond t (good (from bs)) none ≡ none
+  none-from : (bs : List ℕ) (t : Bool) → sameBytes bs (rec (from bs)) ≡ t →
+      ((a : A) → has a ≡ true → bs ≡ rec a → ⊥) → cond t (good (from bs)) none ≡ none
   none-from bs true s h = let r = found-to bs (from bs) true s refl in absurd (h (from bs) (r .0) (r .1))
   none-from bs false s h = refl
 
-  reads : (bs : List ℕ) (at : ℕ) (a : A) → (readAt bs at ≡ good a) ↔ ((has a ≡ true) × (take size (drop at bs) ≡ rec a))
+  reads : (bs : List ℕ) (at : ℕ) (a : A) →
+      (readAt bs at ≡ good a) ↔ ((has a ≡ true) × (take size (drop at bs) ≡ rec a))
   reads bs at a =
       let part : List ℕ = take size (drop at bs) in
       (found-to part a (sameBytes part (rec (from part))) refl, λ h. found-from part a (h .0) (h .1))
 
-  refuses : (bs : List ℕ) (at : ℕ) → (readAt bs at ≡ none) ↔ ((a : A) → has a ≡ true → take size (drop at bs) ≡ rec a → ⊥)
+  refuses : (bs : List ℕ) (at : ℕ) →
+      (readAt bs at ≡ none) ↔ ((a : A) → has a ≡ true → take size (drop at bs) ≡ rec a → ⊥)
   refuses bs at =
       let part : List ℕ = take size (drop at bs) in
       (λ e a h f. apart a (sym e ∙ found-from part a h f), none-from part (sameBytes part (rec (from part))) refl)
@@ -305,5 +303,31 @@ answers =
 -- two outcomes of writing that meet the contract are the same
 pub written-once : (w : Written) (a b : Answer) (bs cs : List ℕ) → wrote a bs ≡ w → wrote b cs ≡ w → (a ≡ b) × (bs ≡ cs)
 written-once w a b bs cs e f =
-    let g : wrote a bs ≡ wrote b cs = e ∙ sym f in
-    (answer-case a b (ap (λ (w : Written). w .number) g) (ap (λ (w : Written). w .value) g), ap (λ (w : Written). w .bytes) g)
+    let same : wrote a bs ≡ wrote b cs = e ∙ sym f in (
+      answer-case a b (ap (λ (v : Written). v .number) same) (ap (λ (v : Written). v .value) same),
+      ap (λ (v : Written). v .bytes) same,
+    )
+
+-- and so of every contract here that is an equation of the result
+pub read-once : {A : Type 0} (found a b : A) → a ≡ found → b ≡ found → a ≡ b
+read-once found a b e f = e ∙ sym f
+
+-- document 01's whole example: start at place 0 (transaction 1), key 7 becomes 12, commit number 1
+pub example-calls : (callRecord (Call.Start 0)
+    ++ (callRecord (Call.Update 0 7 12)
+    ++ callRecord (Call.Commit 0)))
+    ≡ 0x43 ∷ 0x4C ∷ 0x01 ∷ 0x00 ∷ 0x00 ∷ 0x00 ∷ 0x00 ∷ 0x00 ∷ 0x00 ∷ 0x00
+    ∷ 0x43 ∷ 0x4C ∷ 0x03 ∷ 0x00 ∷ 0x07 ∷ 0x00 ∷ 0x0C ∷ 0x00 ∷ 0x00 ∷ 0x00
+    ∷ 0x43 ∷ 0x4C ∷ 0x05 ∷ 0x00 ∷ 0x00 ∷ 0x00 ∷ 0x00 ∷ 0x00 ∷ 0x00 ∷ 0x00 ∷ []
+unfolding callRecord
+example-calls = refl
+
+abbrev answered : ℕ → Reply
+answered value = record { place = 0; answer = Answer.Ok value }
+
+pub example-answers : (answerRecord (answered 1) ++ (answerRecord (answered 0) ++ answerRecord (answered 1)))
+    ≡ 0x41 ∷ 0x4E ∷ 0x00 ∷ 0x00 ∷ 0x01 ∷ 0x00 ∷ 0x00 ∷ 0x00
+    ∷ 0x41 ∷ 0x4E ∷ 0x00 ∷ 0x00 ∷ 0x00 ∷ 0x00 ∷ 0x00 ∷ 0x00
+    ∷ 0x41 ∷ 0x4E ∷ 0x00 ∷ 0x00 ∷ 0x01 ∷ 0x00 ∷ 0x00 ∷ 0x00 ∷ []
+unfolding answerRecord
+example-answers = refl
