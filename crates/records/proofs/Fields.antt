@@ -1,5 +1,5 @@
 -- What the code looks at in a record is what the format says of its bytes:
---     call-found, answer-found    the mark, the kind or number, the place byte and the numbers behind them are as the record has them
+--     call-found, answer-found    what reading finds, from the mark, the kind or number, the place byte and the numbers behind them
 --     as-written                  what writing gives, from the code's two tests
 -- Assumes nothing.
 use mathlib.Core.Path.{_≡_, refl, sym, ap, _∙_, subst}

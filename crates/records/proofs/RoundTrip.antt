@@ -1,6 +1,6 @@
 -- What the records promise, for every run of bytes, every offset, and every call and answer:
---     Promises           what is promised of one kind of record: read exactly where it stands, written exactly where it can be,
---                        written then read the same, read then written the same bytes, every other byte as it was
+--     Promises           of one kind of record: read exactly where it stands, written exactly where it can be, written then
+--                        read the same, read then written the same bytes, every other byte as it was
 --     calls, answers     the promises of both
 --     answer-case        number and value determine the case of an answer
 --     written-once       two outcomes of writing that meet the contract are the same
@@ -82,9 +82,11 @@ call-back c h =
 call-sound : (c : Call) → callFits (callFrom (callRecord c)) ≡ true
 unfolding callFrom callRecord
 call-sound c =
-    let d : Call = callOf (kindOf c) (placeOf c % 256) (numberIn (bytesOf 2 (keyOf c))) (numberIn (bytesOf 4 (newValueOf c))) in
+    let key : ℕ = numberIn (bytesOf 2 (keyOf c)) in
+    let value : ℕ = numberIn (bytesOf 4 (newValueOf c)) in
+    let d : Call = callOf (kindOf c) (placeOf c % 256) key value in
     let small : Small (placeOf c % 256) d =
-    call-small (kindOf c) (placeOf c % 256) _ _ (number-goes 2 (keyOf c)) (number-goes 4 (newValueOf c)) in
+    call-small (kindOf c) (placeOf c % 256) key value (number-goes 2 (keyOf c)) (number-goes 4 (newValueOf c)) in
     both (lt-ltb (placeOf d) (256 ^ 1) (omega (arith, small .0)))
     (both (lt-ltb (keyOf d) (256 ^ 2) (small .1 .0)) (lt-ltb (newValueOf d) (256 ^ 4) (small .1 .1)))
 
@@ -108,7 +110,7 @@ reply-sound r =
 
 -- READING AND WRITING
 
--- what is promised of one kind of record: of its size, which values have one, what it is, what reading finds and writing gives
+-- what is promised of one kind of record: its size, which values have one, what it is, what reading and writing give
 pub record Promises {A R : Type 0} (size : ℕ) (has : A → Bool) (rec : A → List ℕ) (good : A → R) (none : R)
     (readAt : List ℕ → ℕ → R) (writtenAt : List ℕ → ℕ → A → Written) : Type 0 where
   -- each record has this many bytes, and no two values that have a record have the same

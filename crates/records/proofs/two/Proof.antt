@@ -29,7 +29,8 @@ returns : tie.Need-returns
 returns c =
     let start = c .before .before .before .before .before in
     let first = c .before .before .wide in
-    (bytes-two _ _ _ _ (start .pre) (first .ensures .0) (c .wide2 .ensures .0), omega (arith, first .ensures .1, c .wide2 .ensures .1))
+    let second = c .wide2 in
+    (bytes-two _ _ _ _ (start .pre) (first .ensures .0) (second .ensures .0), omega (arith, first .ensures .1, second .ensures .1))
 
 pub two-spec : {M : Type 1} → statement M
 two-spec =

@@ -48,7 +48,8 @@ same-length c = search needs
 
 -- what writing gives, by the outcome of the two tests
 gives : (c : tie.After-room) (t : Bool) → (c .before .goes-in .result && c .room .result) ≡ t →
-    cond t (wrote (Answer.Ok 0) (putAt (entry c .args .bytes .now) (entry c .args .at) (answerRecord (entry c .args .reply))))
+    cond t
+    (wrote (Answer.Ok 0) (putAt (entry c .args .bytes .now) (entry c .args .at) (answerRecord (entry c .args .reply))))
     (wrote Answer.Record (entry c .args .bytes .now))
     ≡ writtenAnswer (entry c .args .bytes .now) (entry c .args .at) (entry c .args .reply)
 unfolding writtenAnswer

@@ -54,7 +54,8 @@ same-length c = search needs
 
 -- what writing gives, by the outcome of the two tests
 gives : (c : tie.After-room) (t : Bool) → (c .before .goes-in .result && c .room .result) ≡ t →
-    cond t (wrote (Answer.Ok 0) (putAt (entry c .args .bytes .now) (entry c .args .at) (callRecord (entry c .args .call))))
+    cond t
+    (wrote (Answer.Ok 0) (putAt (entry c .args .bytes .now) (entry c .args .at) (callRecord (entry c .args .call))))
     (wrote Answer.Record (entry c .args .bytes .now))
     ≡ writtenCall (entry c .args .bytes .now) (entry c .args .at) (entry c .args .call)
 unfolding writtenCall
