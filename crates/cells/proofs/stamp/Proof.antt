@@ -1,12 +1,13 @@
 use borrow.Author.Needs.{needs}
-use native.Mathlib.Omega.{arith}
+use mathlib.Core.Logic.{⊎-elim}
 use mathlib.Core.Path.{_≡_, sym, ap, _∙_}
-use Prim.Native.Nat.{_-_, _≤_}
-use lib.ListN.{length}
-use Rattle.cells.specs.Cells.{cellsOf, withCells}
+use Prim.Native.Nat.{_+_, _-_, _/_, _≤_, _<_}
+use lib.ListN.{length, getD}
+use Rattle.cells.specs.Cells.{cellsOf, withCells, noCell}
 use Rattle.cells.specs.Rules.{stamped}
 use Rattle.cells.proofs.Laws.{mapTo}
-use Rattle.cells.proofs.Scan.{to-none, to-at, to-next, to-end}
+use Rattle.cells.proofs.Scan.{to-none, to-at, to-next, to-keep, to-end, to-length}
+use Rattle.cells.proofs.Writes.{stamped-other}
 use Rattle.cells.proofs.stamp.Statement.{statement}
 use Rattle.cells.proofs.stamp.Tie as tie
 
@@ -26,6 +27,9 @@ loop-holds c = (search needs, search needs, to-none _ _)
 cell-at-requires : tie.Need-cell-at-requires Inv-loop μ-loop
 cell-at-requires c κs = search needs
 
+own-requires : tie.Need-own-requires Inv-loop μ-loop
+own-requires c κs = search needs
+
 stamped-requires : tie.Need-stamped-requires Inv-loop μ-loop
 stamped-requires c κs = search needs
 
@@ -40,10 +44,19 @@ loop-less c = search needs
 
 loop-again : tie.Need-loop-again Inv-loop μ-loop
 loop-again c =
-    let l = c .before .before .before .before .before .before .before .before in
+    let l = c .before .before .before .before .before in
     let s = l .before .before .before .before .args in
+    let ws = s .cells .now in
     let f = stamped (s .number) (s .commit) in
-    (search needs, search needs, cc (to-at f (s .cells .now) (l .loop .i), to-next (s .cells .now) (l .loop .i) (search needs) f))
+    let h : l .loop .i < length ws / 4 = search needs in
+    let x = getD (cellsOf ws) (l .loop .i) noCell in
+    let at = to-at f ws (l .loop .i) in
+    let e : c .if1 .cells ≡ withCells ws (mapTo (l .loop .i + 1) f (cellsOf ws)) =
+    ⊎-elim
+    (λ w. cc (at, to-next ws (l .loop .i) h f))
+    (λ w. cc (to-keep ws (l .loop .i) h f (stamped-other (s .number) x (s .commit) (cc at))))
+    (c .if1 .came) in
+    (search needs, ap length e ∙ to-length f ws (l .loop .i + 1), e)
 
 same-length : tie.Need-same-length Inv-loop μ-loop
 same-length c = search needs
@@ -60,6 +73,7 @@ stamp-spec =
     count-requires
     loop-holds
     cell-at-requires
+    own-requires
     stamped-requires
     put-cell-requires
     add-i

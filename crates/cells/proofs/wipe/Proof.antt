@@ -1,13 +1,13 @@
 use borrow.Author.Needs.{needs}
-use native.Mathlib.Omega.{arith}
 use mathlib.Core.Logic.{⊎-elim}
 use mathlib.Core.Path.{_≡_, sym, ap, _∙_}
-use Prim.Native.Nat.{_-_, _≤_}
+use Prim.Native.Nat.{_+_, _-_, _/_, _≤_, _<_}
 use lib.ListN.{length, getD}
-use Rattle.cells.specs.Cells.{cellsOf, withCells, noCell, own}
+use Rattle.cells.specs.Cells.{cellsOf, withCells, noCell}
 use Rattle.cells.specs.Rules.{wiped}
 use Rattle.cells.proofs.Laws.{mapTo}
-use Rattle.cells.proofs.Scan.{to-none, to-at, to-next, to-keep, to-end, pick-true, pick-false}
+use Rattle.cells.proofs.Scan.{to-none, to-at, to-next, to-keep, to-end, to-length}
+use Rattle.cells.proofs.Writes.{wiped-other}
 use Rattle.cells.proofs.wipe.Statement.{statement}
 use Rattle.cells.proofs.wipe.Tie as tie
 
@@ -30,8 +30,8 @@ cell-at-requires c κs = search needs
 own-requires : tie.Need-own-requires Inv-loop μ-loop
 own-requires c κs = search needs
 
-none-requires : tie.Need-none-requires Inv-loop μ-loop
-none-requires c κs = search needs
+wiped-requires : tie.Need-wiped-requires Inv-loop μ-loop
+wiped-requires c κs = search needs
 
 put-cell-requires : tie.Need-put-cell-requires Inv-loop μ-loop
 put-cell-requires c κs = search needs
@@ -46,16 +46,17 @@ loop-again : tie.Need-loop-again Inv-loop μ-loop
 loop-again c =
     let l = c .before .before .before .before .before in
     let s = l .before .before .before .before .args in
+    let ws = s .cells .now in
     let f = wiped (s .number) in
-    let x = getD (cellsOf (s .cells .now)) (l .loop .i) noCell in
-    let at = to-at f (s .cells .now) (l .loop .i) in (
-      search needs,
-      ⊎-elim (λ w. search needs) (λ w. search needs) (c .if1 .came),
-      ⊎-elim
-          (λ w. cc (pick-true {t = own (s .number) x} noCell x (cc at), to-next (s .cells .now) (l .loop .i) (search needs) f))
-          (λ w. cc (to-keep (s .cells .now) (l .loop .i) (search needs) f (pick-false {t = own (s .number) x} noCell x (cc at))))
-          (c .if1 .came),
-    )
+    let h : l .loop .i < length ws / 4 = search needs in
+    let x = getD (cellsOf ws) (l .loop .i) noCell in
+    let at = to-at f ws (l .loop .i) in
+    let e : c .if1 .cells ≡ withCells ws (mapTo (l .loop .i + 1) f (cellsOf ws)) =
+    ⊎-elim
+    (λ w. cc (at, to-next ws (l .loop .i) h f))
+    (λ w. cc (to-keep ws (l .loop .i) h f (wiped-other (s .number) x (cc at))))
+    (c .if1 .came) in
+    (search needs, ap length e ∙ to-length f ws (l .loop .i + 1), e)
 
 same-length : tie.Need-same-length Inv-loop μ-loop
 same-length c = search needs
@@ -73,7 +74,7 @@ wipe-spec =
     loop-holds
     cell-at-requires
     own-requires
-    none-requires
+    wiped-requires
     put-cell-requires
     add-i
     loop-less
