@@ -106,13 +106,12 @@ module _ (b : Board) (cs : List Cell) (L : Ledger) (𝓛 : Linked b cs L) (p k :
   foreign-cell u e =
       let r = has-found (foreignOf k (numberAt b p) u) cs e in
       let c = cellAt cs (r .at) in
-      let a = and-left (ofKey k c && foreign (numberAt b p) c) (eqb (c .number) u) (r .passes) in
-      let f = foreign-facts c (numberAt b p) (and-right (ofKey k c) (foreign (numberAt b p) c) a) in (
+      let a = and-right (ofKey k c) (foreign (numberAt b p) c && eqb (c .number) u) (r .passes) in (
         r .at,
         record {
-          word = eqb-true _ _ (and-left (ofKey k c) (foreign (numberAt b p) c) a);
-          commit = f .0;
-          number = eqb-true _ _ (and-right (ofKey k c && foreign (numberAt b p) c) (eqb (c .number) u) (r .passes));
+          word = eqb-true _ _ (and-left (ofKey k c) (foreign (numberAt b p) c && eqb (c .number) u) (r .passes));
+          commit = foreign-facts c (numberAt b p) (and-left (foreign (numberAt b p) c) (eqb (c .number) u) a) .0;
+          number = eqb-true _ _ (and-right (foreign (numberAt b p) c) (eqb (c .number) u) a);
         },
       )
 
@@ -120,7 +119,7 @@ module _ (b : Board) (cs : List Cell) (L : Ledger) (𝓛 : Linked b cs L) (p k :
   unfolding foreignWith
   cell-foreign u i d n =
       some-has (foreignOf k (numberAt b p) u) cs i (in-cells cs i k (d .word))
-      (both (both (eq-eqb _ _ (d .word)) (foreign-of (cellAt cs i) (numberAt b p) u k d n)) (eq-eqb _ _ (d .number)))
+      (both (eq-eqb _ _ (d .word)) (both (foreign-of (cellAt cs i) (numberAt b p) u k d n) (eq-eqb _ _ (d .number))))
 
   held-hidden : heldBack k (numberAt b p) (b .places) cs ≡ true → hidden L k ≡ true
   unfolding heldBack
