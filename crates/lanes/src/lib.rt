@@ -15,7 +15,7 @@ ghost use lib.ListN.{length, take, drop};
 ghost use Rattle.records.specs.Format.{answerBytes, callAt, putAt};
 ghost use Rattle.steps.specs.Step.{outcome, step};
 ghost use Rattle.lanes.specs.Serve.{serving, serveInto, oneAnswered, answerOne};
-ghost use Rattle.lanes.specs.Desk.{turning, turnOf, ending, endOf};
+ghost use Rattle.lanes.specs.Desk.{goesOn, turning, turnOf, ending, endOf};
 
 // Why serving stopped: fewer bytes than a call record are left, bytes that are no call, or no room for one more answer.
 pub enum Stop {
@@ -183,6 +183,17 @@ pub fn turn(
         left: left,
         written: s.written,
         stop: stop,
+    }
+}
+
+// Whether the desk goes on to more input after such a stop.
+pub fn goes_on(stop: Stop) -> bool
+    ensures { λ r. ⌜ r ≡ goesOn stop ⌝ }
+{
+    match stop {
+        Stop::End => true,
+        Stop::Record => false,
+        Stop::Room => false,
     }
 }
 
