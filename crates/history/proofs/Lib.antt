@@ -1,3 +1,5 @@
+-- Laws by subject, then the theorems: Demand (demand3), Judge (all-right, full-right, decided), Axioms (snapshot-isolation),
+-- Examples, and Bytes (desk-tells, serve-tells).
 pub mod Basics
 pub mod Facts
 pub mod Leave
@@ -11,3 +13,7 @@ pub mod Steps
 pub mod Demand
 pub mod Full
 pub mod Judge
+pub mod Axioms
+pub mod Examples
+pub mod Small
+pub mod Bytes

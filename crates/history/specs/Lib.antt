@@ -1,2 +1,5 @@
 pub mod History
 pub mod Verdict
+pub mod Axioms
+pub mod Examples
+pub mod Bytes

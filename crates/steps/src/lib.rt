@@ -41,12 +41,16 @@ pub struct Answered {
 }
 
 impl Board {
+    // Places 0 to 15.
     pub const PLACES: usize = 16;
 
+    // Keys 0 to 255.
     pub const KEYS: u32 = 256;
 
+    // 1 to 1,024 cells.
     pub const CELLS: usize = 1024;
 
+    // The start count is at most 4,000,000,000.
     pub const STARTS: u32 = 4_000_000_000;
 
     // The fresh record.
@@ -260,7 +264,10 @@ impl Board {
         while i < Self::PLACES {
             let p = self.places[i];
             i += 1;
-            if !p.is_idle() & self.has_number(i, p.number) {
+            if p.is_idle() {
+                continue;
+            }
+            if self.has_number(i, p.number) {
                 return false;
             }
         }
@@ -306,6 +313,7 @@ impl Place {
         }
     }
 
+    // No transaction is here.
     pub fn is_idle(self) -> bool
         ensures { λ r. ⌜ r ≡ isIdle (self .state) ⌝ }
     {
@@ -318,6 +326,7 @@ impl Place {
         }
     }
 
+    // The transaction here may do anything.
     pub fn is_open(self) -> bool
         ensures { λ r. ⌜ r ≡ isOpen (self .state) ⌝ }
     {
@@ -330,6 +339,7 @@ impl Place {
         }
     }
 
+    // The transaction here met a conflict, and can only roll back.
     pub fn is_spoiled(self) -> bool
         ensures { λ r. ⌜ r ≡ isSpoiled (self .state) ⌝ }
     {
@@ -342,6 +352,7 @@ impl Place {
         }
     }
 
+    // The transaction here can only commit or roll back.
     pub fn is_prepared(self) -> bool
         ensures { λ r. ⌜ r ≡ isPrepared (self .state) ⌝ }
     {
