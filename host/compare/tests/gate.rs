@@ -107,6 +107,7 @@ fn the_eleven_situations() {
     let twin = situations::compare(&Twin).unwrap();
     let proved = situations::compare(&Proved).unwrap();
     assert_eq!(twin, proved);
+    say(&format!("situations: {twin} calls"));
 }
 
 /// The program `situations` has its output stored beside it; the twin and `lane_call` give the same, line by line.
