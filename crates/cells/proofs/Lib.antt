@@ -2,4 +2,5 @@
 pub mod Laws
 pub mod Words
 pub mod Scan
+pub mod Skip
 pub mod Meaning

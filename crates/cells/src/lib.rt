@@ -7,6 +7,7 @@ ghost use Rattle.cells.specs.Cells.{noCell, cellsOf, withCells, countOf,
 ghost use Rattle.cells.specs.Cells.{empty, ofKey, committed, own, foreign, seenBy};
 ghost use Rattle.cells.specs.Rules.{ownAt, newestSeen, conflict, foreignWith, hasCell, keeps};
 ghost use Rattle.cells.specs.Rules.{clashes, valued, stamped, wiped, newer, between};
+ghost use Rattle.cells.specs.Search.{partOf, partIs, fourHave, NextAt};
 
 pub struct Cell {
     pub word: u32,
@@ -285,4 +286,45 @@ pub fn wipe(cells: &mut [u32], number: u32)
             put_cell(cells, i, Cell::none());
         }
     }
+}
+
+impl Cell {
+    // The commit number, or the first word
+    fn part(self, commit: bool) -> u32
+        ensures { λ r. ⌜ r ≡ partOf commit self ⌝ }
+    {
+        if commit { self.commit } else { self.word }
+    }
+}
+
+// Whether one of four cells from i on has this word for that part
+fn four_have(cells: &[u32], i: usize, commit: bool, word: u32) -> bool
+    requires { ⌜ i + 3 < countOf (length (now cells)) ⌝ }
+    ensures { λ r. ⌜ r ≡ fourHave (partIs commit word) i (cellsOf (now (cells .entry))) ⌝ }
+{
+    (cell_at(cells, i).part(commit) == word)
+        | (cell_at(cells, i + 1).part(commit) == word)
+        | (cell_at(cells, i + 2).part(commit) == word)
+        | (cell_at(cells, i + 3).part(commit) == word)
+}
+
+// The first cell from `from` on that has this word for that part, or the end: eight are looked at in one go
+fn next(cells: &[u32], from: usize, commit: bool, word: u32) -> usize
+    ensures { λ r. ⌜ NextAt (partIs commit word) from (cellsOf (now (cells .entry))) r ⌝ }
+{
+    let n = count(cells);
+    let mut i = from;
+    while i < n {
+        if 8 <= n - i {
+            if !(four_have(cells, i, commit, word) | four_have(cells, i + 4, commit, word)) {
+                i += 8;
+                continue;
+            }
+        }
+        if cell_at(cells, i).part(commit) == word {
+            return i;
+        }
+        i += 1;
+    }
+    i
 }
