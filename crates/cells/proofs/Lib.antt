@@ -3,4 +3,5 @@ pub mod Laws
 pub mod Words
 pub mod Scan
 pub mod Skip
+pub mod Looks
 pub mod Meaning

@@ -5,9 +5,9 @@ ghost use Prim.Native.Nat.{ℕ, _+_, _/_, _<_};
 ghost use lib.ListN.{length, getD, set};
 ghost use Rattle.cells.specs.Cells.{noCell, cellsOf, withCells, countOf, wholeCells};
 ghost use Rattle.cells.specs.Cells.{empty, ofKey, committed, own, foreign, seenBy};
-ghost use Rattle.cells.specs.Rules.{ownAt, newestSeen, conflict, foreignWith, hasCell, keeps};
+ghost use Rattle.cells.specs.Rules.{ownAt, newestSeen, conflict, foreignWith, hasCell, keeps, lookOf};
 ghost use Rattle.cells.specs.Rules.{clashes, valued, stamped, wiped, newer, between};
-ghost use Rattle.cells.specs.Search.{partOf, partIs, fourHave, NextAt};
+ghost use Rattle.cells.specs.Search.{partOf, partIs, fourHave, NextAt, lowestOf, newestOf, noLook, lookTurn};
 
 pub struct Cell {
     pub word: u32,
@@ -20,6 +20,14 @@ pub struct Cell {
 pub enum Found {
     At(usize),
     Nothing,
+}
+
+// What a read and an update ask of a key's cells.
+pub struct Looked {
+    pub own: Found,
+    pub foreign: bool,
+    pub conflict: bool,
+    pub newest: Cell,
 }
 
 impl Cell {
@@ -327,4 +335,78 @@ fn next(cells: &[u32], from: usize, commit: bool, word: u32) -> usize
         i += 1;
     }
     i
+}
+
+impl Found {
+    // The lowest so far, after cell i that passes the test or not
+    fn lowest(self, passes: bool, i: usize) -> Found
+        ensures { λ r. ⌜ r ≡ lowestOf self passes i ⌝ }
+    {
+        match self {
+            Found::At(j) => Found::At(j),
+            Found::Nothing => { if passes { Found::At(i) } else { Found::Nothing } }
+        }
+    }
+}
+
+impl Cell {
+    // The newest that the view sees so far, after this cell
+    fn newest_of(self, best: Cell, view: u32) -> Cell
+        ensures { λ r. ⌜ r ≡ newestOf view best self ⌝ }
+    {
+        if self.seen_by(view) & (best.commit < self.commit) {
+            self
+        } else {
+            best
+        }
+    }
+}
+
+impl Looked {
+    // Nothing seen yet
+    fn none() -> Looked
+        ensures { λ r. ⌜ r ≡ noLook ⌝ }
+    {
+        let own = Found::Nothing;
+        let newest = Cell::none();
+        Looked {
+            own: own,
+            foreign: false,
+            conflict: false,
+            newest: newest,
+        }
+    }
+
+    // What is known after one more cell of the key
+    fn with(self, i: usize, c: Cell, number: u32, view: u32) -> Looked
+        ensures { λ r. ⌜ r ≡ lookTurn number view i c self ⌝ }
+    {
+        let so_far = self.own;
+        let own = so_far.lowest(c.own(number), i);
+        let newest = c.newest_of(self.newest, view);
+        Looked {
+            own: own,
+            foreign: self.foreign | c.foreign(number),
+            conflict: self.conflict | c.clashes(number, view),
+            newest: newest,
+        }
+    }
+}
+
+// All that a read or an update asks of the key's cells, in one pass
+pub fn look(cells: &[u32], key: u32, number: u32, view: u32) -> Looked
+    ensures { λ r. ⌜ r ≡ lookOf key number view (cellsOf (now (cells .entry))) ⌝ }
+{
+    let mut seen = Looked::none();
+    if key == u32::MAX {
+        return seen;
+    }
+    let n = count(cells);
+    let mut i = next(cells, 0, false, key + 1);
+    while i < n {
+        let c = cell_at(cells, i);
+        seen = seen.with(i, c, number, view);
+        i = next(cells, i + 1, false, key + 1);
+    }
+    seen
 }
