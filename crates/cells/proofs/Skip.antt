@@ -1,10 +1,10 @@
 -- Skips: cells that a quick scan passes over because none of them passes its test.
 --     eight-more     what holds of each number below i holds below i + 8, where none of eight cells passes
 --     skip           a scan from i on is the scan from r on, where none of the cells between passes
---     mapTo-skip     the same for a loop that changes each cell in turn
+--     to-over        the same for a loop that changes each cell in turn, where committed cells stay as they are
 -- Assumes nothing.
 use mathlib.Core.Path.{_≡_, refl, sym, ap, _∙_}
-use mathlib.Core.Bool.{Bool, true, false, _||_, true≢false}
+use mathlib.Core.Bool.{Bool, true, false, not, _&&_, _||_, true≢false}
 use mathlib.Core.List.{List, [], _∷_}
 use Prim.Native.Nat.{ℕ, zero, suc, _+_, _-_, _≤_, _<_}
 use native.Mathlib.Omega.{arith}
@@ -13,9 +13,10 @@ use borrow.Author.Tests.{ltb-true, ltb-false}
 use lib.Dec.{eqb, ltb}
 use lib.ListN.{length, getD, drop, drop-of-length-le}
 use Rattle.cells.specs.declared.Cell.{Cell}
-use Rattle.cells.specs.Cells.{noCell}
-use Rattle.cells.specs.Search.{partOf, partIs, fourHave}
-use Rattle.cells.proofs.Laws.{drop-next, mapTo, mapTo-keep}
+use Rattle.cells.specs.Cells.{noCell, cellsOf, withCells, empty, own}
+use Rattle.cells.specs.Search.{partOf, partIs, fourHave, NextAt}
+use Rattle.cells.proofs.Laws.{drop-next, mapTo, mapTo-later, mapTo-skip}
+use Rattle.cells.proofs.Words.{cells-with}
 
 or-left : (a b : Bool) → (a || b) ≡ false → a ≡ false
 or-left true b e = e
@@ -84,3 +85,26 @@ module _ {R : Type 0} (go : ℕ → List Cell → R) (p : Cell → Bool)
   skip i r l h =
       let e : i + (r - i) ≡ r = omega arith in
       skip-by (r - i) i (λ k g. h k (omega arith)) ∙ ap (λ (m : ℕ). go m (drop m cs)) e
+
+-- a committed cell is nobody's own
+no-own : (a b c : Bool) → b ≡ false → (a && b && c) ≡ false
+no-own true b c e = ap (λ (t : Bool). t && c) e
+no-own false b c e = refl
+
+pub committed-not-own : (number : ℕ) (c : Cell) → partIs true 0 c ≡ false → own number c ≡ false
+committed-not-own number c e = no-own (not (empty c)) (eqb (c .commit) 0) (eqb (c .number) number) e
+
+module _ (f : Cell → Cell) (stays : (c : Cell) → partIs true 0 c ≡ false → f c ≡ c) (ws : List ℕ) where
+  -- from cell i on to the next uncommitted one nothing is to be changed
+  pub to-over : (now : List ℕ) (i r : ℕ) → now ≡ withCells ws (mapTo i f (cellsOf ws)) → NextAt (partIs true 0) i (cellsOf now) r
+      → now ≡ withCells ws (mapTo r f (cellsOf ws))
+  to-over now i r e told =
+      let cs = cellsOf ws in
+      let same : (k : ℕ) → i ≤ k → getD (cellsOf now) k noCell ≡ getD cs k noCell =
+      λ k h. ap (λ (v : List ℕ). getD (cellsOf v) k noCell) e
+      ∙ ap (λ (ds : List Cell). getD ds k noCell) (cells-with ws (mapTo i f cs))
+      ∙ mapTo-later i f cs noCell k h in
+      e
+      ∙ ap (withCells ws)
+      (mapTo-skip i r f cs noCell (told .onward)
+      (λ k a b. stays (getD cs k noCell) (sym (ap (partIs true 0) (same k b)) ∙ told .passed k a b)))

@@ -277,9 +277,11 @@ pub fn stamp(cells: &mut [u32], number: u32, commit: u32)
     ensures { λ r. ⌜ now (cells .exit) ≡ withCells (now (cells .entry)) (map (stamped number commit) (cellsOf (now (cells .entry)))) ⌝ }
 {
     let n = count(cells);
-    for i in 0..n {
+    let mut i = next(cells, 0, true, 0);
+    while i < n {
         let c = cell_at(cells, i).stamped(number, commit);
         put_cell(cells, i, c);
+        i = next(cells, i + 1, true, 0);
     }
 }
 
@@ -288,11 +290,11 @@ pub fn wipe(cells: &mut [u32], number: u32)
     ensures { λ r. ⌜ now (cells .exit) ≡ withCells (now (cells .entry)) (map (wiped number) (cellsOf (now (cells .entry)))) ⌝ }
 {
     let n = count(cells);
-    for i in 0..n {
-        let c = cell_at(cells, i);
-        if c.own(number) {
-            put_cell(cells, i, Cell::none());
-        }
+    let mut i = next(cells, 0, true, 0);
+    while i < n {
+        let c = cell_at(cells, i).wiped(number);
+        put_cell(cells, i, c);
+        i = next(cells, i + 1, true, 0);
     }
 }
 
