@@ -6,15 +6,15 @@
 -- Assumes nothing.
 use mathlib.Core.Path.{_≡_, refl, sym, ap, _∙_, subst}
 use mathlib.Core.Bool.{Bool, true, false, _&&_, and-assoc, false≢true}
-use mathlib.Core.List.{List, [], _∷_, _++_, append-assoc}
+use mathlib.Core.List.{List, [], _∷_, _++_, append-assoc, append-nil}
 use Prim.Native.Nat.{ℕ, zero, suc, _+_, _*_, _-_, _/_, _%_, _^_, _≤_, _<_}
-use native.Mathlib.Nat.{le-of-suc-le-suc, not-suc-le-zero, pow-suc, pow-zero, add-suc}
+use native.Mathlib.Nat.{le-of-suc-le-suc, not-suc-le-zero, pow-suc, pow-zero, zero-add}
 use native.Mathlib.Omega.{arith}
 use borrow.Author.Tests.{eqb-true, eq-eqb, leb-true, le-leb}
 use lib.Dec.{eqb, leb}
-use lib.ListN.{length, getD, take, drop, length-drop}
-use lib.Seq.{drop-cons, take-all}
-use Rattle.records.specs.Format.{bytesOf, numberIn, sameBytes}
+use lib.ListN.{length, getD, take, drop, length-append, length-drop, drop-of-length-le, take-append-drop, List·getD-append}
+use lib.Seq.{drop-cons, take-all, sets, sets-eq, drop-drop, length-take-le, take-at, drop-at, getD-take, getD-drop}
+use Rattle.records.specs.Format.{bytesOf, numberIn, sameBytes, putAt}
 
 -- k elements from index i on
 abbrev pub gets : ℕ → List ℕ → ℕ → List ℕ
@@ -155,3 +155,96 @@ same-apart a b h = not-passed (sameBytes a b) (λ e. h (ap length (same-equal a 
 -- the part from an offset on, as it is lent
 pub part-rest : (l : List ℕ) (i : ℕ) → take (length l - i) (drop i l) ≡ drop i l
 part-rest l i = take-all (length l - i) (drop i l) (omega (arith, length-drop i l))
+
+pub put-is : (l : List ℕ) (at : ℕ) (rec : List ℕ) → putAt l at rec ≡ take at l ++ (rec ++ drop (at + length rec) l)
+unfolding putAt
+put-is l at rec = refl
+
+-- stores one after the other from the front, as code makes them
+pub put-stores : (vs l : List ℕ) → length vs ≤ length l → sets l 0 vs ≡ putAt l 0 vs
+unfolding putAt
+put-stores vs l h = sets-eq vs l 0 (omega arith)
+
+pub put-front : (l rec : List ℕ) → putAt l 0 rec ≡ rec ++ drop (length rec) l
+unfolding putAt
+put-front l rec = rw zero-add
+
+-- a record put into the part from an offset on, with the part put back, is put from the offset
+pub put-part : (l : List ℕ) (at : ℕ) (rec part : List ℕ) → part ≡ putAt (take (length l - at) (drop at l)) 0 rec →
+    take at l ++ (part ++ drop (length l - at) (drop at l)) ≡ putAt l at rec
+unfolding putAt
+put-part l at rec part e =
+    let rest : drop (length l - at) (drop at l) ≡ [] = drop-of-length-le (drop at l) {i = length l - at} (omega (arith, length-drop at l)) in
+    let whole : part ≡ rec ++ drop (at + length rec) l =
+    e ∙ ap (λ (p : List ℕ). putAt p 0 rec) (part-rest l at) ∙ put-front (drop at l) rec
+    ∙ ap (λ (p : List ℕ). rec ++ p) (drop-drop (length rec) at l) in
+    rw (rest, append-nil, whole)
+
+module _ (l : List ℕ) (at : ℕ) (rec : List ℕ) (room : at + length rec ≤ length l) where
+  -- up to the record's end, and from there on
+  put-split : putAt l at rec ≡ (take at l ++ rec) ++ drop (at + length rec) l
+  unfolding putAt
+  put-split = sym (append-assoc (take at l) rec (drop (at + length rec) l))
+
+  put-head-length : length (take at l ++ rec) ≡ at + length rec
+  put-head-length = simp (length-append, length-take-le at l (omega arith))
+
+  pub put-take : take (at + length rec) (putAt l at rec) ≡ take at l ++ rec
+  put-take = rw put-split (take-at (take at l ++ rec) (drop (at + length rec) l) (at + length rec) put-head-length)
+
+  pub put-drop : drop (at + length rec) (putAt l at rec) ≡ drop (at + length rec) l
+  put-drop = rw put-split (drop-at (take at l ++ rec) (drop (at + length rec) l) (at + length rec) put-head-length)
+
+  pub put-length : length (putAt l at rec) ≡ length l
+  put-length =
+      let n : ℕ = at + length rec in
+      rw put-split (length-append (take at l ++ rec) (drop n l) ∙ rw (put-head-length, length-drop) (omega arith))
+
+  -- the record stands there
+  pub put-there : take (length rec) (drop at (putAt l at rec)) ≡ rec
+  unfolding putAt
+  put-there =
+      rw (drop-at (take at l) (rec ++ drop (at + length rec) l) at (length-take-le at l (omega arith)))
+      (take-at rec (drop (at + length rec) l) (length rec) refl)
+
+  -- every other byte is as it was
+  pub put-before : (i : ℕ) → i < at → getD (putAt l at rec) i 0 ≡ getD l i 0
+  unfolding putAt
+  put-before i h =
+      List·getD-append (take at l) (rec ++ drop (at + length rec) l) 0 i (omega (arith, length-take-le at l (omega arith)))
+      ∙ getD-take at l i 0 h
+
+  pub put-behind : (i : ℕ) → at + length rec ≤ i → getD (putAt l at rec) i 0 ≡ getD l i 0
+  put-behind i h =
+      let e : at + length rec + (i - (at + length rec)) ≡ i = omega arith in
+      let f : (m : List ℕ) → getD m i 0 ≡ getD (drop (at + length rec) m) (i - (at + length rec)) 0 =
+      λ m. sym (getD-drop (at + length rec) m (i - (at + length rec)) 0 ∙ ap (λ (j : ℕ). getD m j 0) e) in
+      f (putAt l at rec) ∙ ap (λ (m : List ℕ). getD m (i - (at + length rec)) 0) put-drop ∙ sym (f l)
+
+  -- a record put behind it makes one with it
+  pub put-next : (next : List ℕ) → putAt (putAt l at rec) (at + length rec) next ≡ putAt l at (rec ++ next)
+  put-next next =
+      let n : ℕ = at + length rec in
+      let behind : drop (n + length next) (putAt l at rec) ≡ drop (n + length next) l =
+      sym (drop-drop (length next) n (putAt l at rec)) ∙ ap (λ (m : List ℕ). drop (length next) m) put-drop ∙ drop-drop (length next) n l in
+      let size : at + length (rec ++ next) ≡ n + length next = omega (arith, length-append rec next) in
+      put-is (putAt l at rec) n next
+      ∙ rw (put-take, behind, put-is l at (rec ++ next), size) (simp append-assoc)
+
+-- a record that stands there already changes nothing
+pub put-same : (l : List ℕ) (at : ℕ) (rec : List ℕ) → take (length rec) (drop at l) ≡ rec → putAt l at rec ≡ l
+put-same l at rec e =
+    put-is l at rec
+    ∙ ap (λ (r : List ℕ). take at l ++ (r ++ drop (at + length rec) l)) (sym e)
+    ∙ rw (← drop-drop (length rec) at l, take-append-drop, take-append-drop)
+
+-- bytes at the front, and more behind them in the part that is lent
+pub lent-next : (l front more : List ℕ) (n : ℕ) {now part : List ℕ} → length front ≡ n → n ≤ length l → now ≡ putAt l 0 front →
+    part ≡ putAt (take (length now - n) (drop n now)) 0 more →
+    take n now ++ (part ++ drop (length now - n) (drop n now)) ≡ putAt l 0 (front ++ more)
+lent-next l front more n {now} {part} size room e f =
+    let from : 0 + length front ≡ n = omega arith in
+    put-part now n more part f
+    ∙ ap (λ (m : List ℕ). putAt m n more) e
+    ∙ ap (λ (k : ℕ). putAt (putAt l 0 front) k more) (sym from)
+    ∙ put-next l 0 front (omega arith) more

@@ -8,7 +8,7 @@ use Prim.Native.Nat.{ℕ, zero, suc, _+_, _*_, _%_, _^_, _≤_, _<_}
 use native.Mathlib.Nat.{eq-zero-or-pos}
 use native.Mathlib.Omega.{arith}
 use borrow.Author.Tests.{eq-eqb}
-use lib.Dec.{eqb}
+use lib.Dec.{eqb, leb}
 use lib.ListN.{length, getD, take, drop, length-take, length-drop, List·getD-eq-default}
 use Rattle.records.specs.declared.Answer.{Answer}
 use Rattle.records.specs.declared.AnswerRead.{AnswerRead}
@@ -18,6 +18,7 @@ use Rattle.records.specs.Answers.{numberOf, valueOf, placeOf}
 use Rattle.records.specs.declared.Reply.{Reply}
 use Rattle.records.specs.Format.{callBytes, bytesOf, numberIn, sameBytes, kindOf, keyOf, newValueOf, callsOf, callOf, callRecord, callFrom}
 use Rattle.records.specs.Format.{callIn, callAt, answerBytes, answersOf, answerOf, answerRecord, replyFrom, answerIn, answerAt}
+use Rattle.records.specs.Format.{putAt, wrote, written}
 use Rattle.records.proofs.Bytes.{gets, part-gets, same-number, same-append, gets-all, gets-length, number-below, same-apart}
 
 -- a number that is no kind, and one that is no answer's
@@ -165,3 +166,11 @@ unfolding answerAt answerIn
 answer-short bs at h =
     let part : List ℕ = take answerBytes (drop at bs) in
     rw (short answerBytes at bs (answerRecord (replyFrom part)) (omega arith) h (answer-length (replyFrom part)))
+
+-- what writing a record of n bytes gives, from what the code has tested
+pub as-written : (bs : List ℕ) (at : ℕ) (rec : List ℕ) {has fits room t : Bool} {n : ℕ} → length rec ≡ n → fits ≡ has →
+    room ≡ leb (at + n) (length bs) → (fits && room) ≡ t →
+    cond t (wrote (Answer.Ok 0) (putAt bs at rec)) (wrote Answer.Record bs) ≡ written has bs at rec
+as-written bs at rec {has} {fits} {room} {t} {n} size e f told =
+    let g : t ≡ (has && leb (at + length rec) (length bs)) = cc in
+    ap (λ (s : Bool). cond s (wrote (Answer.Ok 0) (putAt bs at rec)) (wrote Answer.Record bs)) g

@@ -1,24 +1,14 @@
 // Calls and answers, and their records: a call's ten bytes, an answer's eight.
 ghost use mathlib.Core.Bool.{_&&_};
+ghost use mathlib.Core.List.{_∷_};
 ghost use mathlib.Core.Path.{_≡_};
-ghost use Prim.Native.Nat.{_+_, _<_, _≤_};
+ghost use Prim.Native.Nat.{_+_, _%_, _<_, _≤_};
 ghost use lib.Dec.{eqb, leb};
 ghost use lib.ListN.{length, getD, take, drop};
 ghost use Rattle.records.specs.Answers.{numberOf, valueOf, placeOf};
-ghost use Rattle.records.specs.Format.{
-  callBytes,
-  answerBytes,
-  kindOf,
-  keyOf,
-  newValueOf,
-  numberIn,
-  callOf,
-  callIn,
-  callAt,
-  answerOf,
-  answerIn,
-  answerAt,
-};
+ghost use Rattle.records.specs.Format.{callBytes, callRecord, kindOf, keyOf, newValueOf, bytesOf, numberIn};
+ghost use Rattle.records.specs.Format.{answerBytes, answerRecord, callOf, callIn, callAt, answerOf, answerIn, answerAt};
+ghost use Rattle.records.specs.Format.{goesIn, putAt, wrote, writtenCall, writtenAnswer};
 
 pub enum Call {
     Start { place: u32 },
@@ -204,6 +194,33 @@ pub fn read_answer(bytes: &[u8], at: usize) -> AnswerRead
     }
 }
 
+// Writes a call's record from an offset: OK with 0, or RECORD with every byte as it was.
+pub fn write_call(bytes: &mut [u8], at: usize, call: Call) -> Answer
+    ensures { λ r. ⌜ wrote r (now (bytes .exit)) ≡ writtenCall (now (bytes .entry)) at call ⌝ }
+{
+    let fits = goes_in(place_of(call), key_of(call), new_value_of(call));
+    if fits & room(bytes.len(), at, CALL_BYTES) {
+        put_call(&mut bytes[at..], call);
+        Answer::Ok(0)
+    } else {
+        Answer::Record
+    }
+}
+
+// Writes an answer's record from an offset: OK with 0, or RECORD with every byte as it was.
+pub fn write_answer(bytes: &mut [u8], at: usize, reply: Reply) -> Answer
+    ensures { λ r. ⌜ wrote r (now (bytes .exit)) ≡ writtenAnswer (now (bytes .entry)) at reply ⌝ }
+{
+    let answer = reply.answer;
+    let fits = goes_in(reply.place, 0, value(answer));
+    if fits & room(bytes.len(), at, ANSWER_BYTES) {
+        put_answer(&mut bytes[at..], reply);
+        Answer::Ok(0)
+    } else {
+        Answer::Record
+    }
+}
+
 // Whether there are so many bytes from an offset on.
 fn room(len: usize, at: usize, bytes: usize) -> bool
     ensures { λ r. ⌜ r ≡ leb (at + bytes) len ⌝ }
@@ -212,6 +229,73 @@ fn room(len: usize, at: usize, bytes: usize) -> bool
         return false;
     }
     bytes <= len - at
+}
+
+// Whether a place goes into a byte and a key into two; a value always goes into four.
+fn goes_in(place: u32, key: u32, value: u32) -> bool
+    ensures { λ r. ⌜ r ≡ (goesIn 1 place && (goesIn 2 key && goesIn 4 value)) ⌝ }
+{
+    (place < 256) & (key < 65536)
+}
+
+// Puts a call's record into the first ten bytes.
+fn put_call(s: &mut [u8], call: Call)
+    requires { ⌜ callBytes ≤ length (now s) ⌝ }
+    ensures { λ r. ⌜ now (s .exit) ≡ putAt (now (s .entry)) 0 (callRecord call) ⌝ }
+{
+    put_head(s, 0x43, 0x4c, kind_of(call), place_of(call));
+    put_two(&mut s[4..], key_of(call));
+    put_four(&mut s[6..], new_value_of(call));
+}
+
+// Puts an answer's record into the first eight bytes.
+fn put_answer(s: &mut [u8], reply: Reply)
+    requires { ⌜ answerBytes ≤ length (now s) ⌝ }
+    ensures { λ r. ⌜ now (s .exit) ≡ putAt (now (s .entry)) 0 (answerRecord reply) ⌝ }
+{
+    let answer = reply.answer;
+    put_head(s, 0x41, 0x4e, number(answer), reply.place);
+    put_four(&mut s[4..], value(answer));
+}
+
+// Puts a mark, a kind or number and a place byte into the first four bytes.
+fn put_head(s: &mut [u8], first: u8, second: u8, kind: u8, place: u32)
+    requires { ⌜ 4 ≤ length (now s) ⌝ }
+    ensures { λ r. ⌜ now (s .exit) ≡ putAt (now (s .entry)) 0 (first ∷ (second ∷ (kind ∷ bytesOf 1 place))) ⌝ }
+{
+    s[0] = first;
+    s[1] = second;
+    s[2] = kind;
+    s[3] = low(place);
+}
+
+// Puts a number into the first two bytes.
+fn put_two(s: &mut [u8], n: u32)
+    requires { ⌜ 2 ≤ length (now s) ⌝ }
+    ensures { λ r. ⌜ now (s .exit) ≡ putAt (now (s .entry)) 0 (bytesOf 2 n) ⌝ }
+{
+    s[0] = low(n);
+    s[1] = low(n / 256);
+}
+
+// Puts a number into the first four bytes.
+fn put_four(s: &mut [u8], n: u32)
+    requires { ⌜ 4 ≤ length (now s) ⌝ }
+    ensures { λ r. ⌜ now (s .exit) ≡ putAt (now (s .entry)) 0 (bytesOf 4 n) ⌝ }
+{
+    let second = n / 256;
+    let third = second / 256;
+    s[0] = low(n);
+    s[1] = low(second);
+    s[2] = low(third);
+    s[3] = low(third / 256);
+}
+
+// The lowest byte of a number.
+fn low(n: u32) -> u8
+    ensures { λ r. ⌜ r ≡ n % 256 ⌝ }
+{
+    (n % 256) as u8
 }
 
 // The call whose record the first ten bytes are.

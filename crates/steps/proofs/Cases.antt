@@ -11,7 +11,7 @@ use native.Mathlib.Omega.{arith}
 use lib.ListN.{length, getD, set}
 use Rattle.records.specs.declared.Call.{Call}
 use Rattle.records.specs.declared.Answer.{Answer}
-use Rattle.records.specs.Answers.{numberOf, valueOf, placeOf}
+use Rattle.records.specs.Answers.{numberOf, valueOf}
 use Rattle.cells.specs.declared.Found.{Found}
 use Rattle.cells.specs.Cells.{noCell, cellsOf, withCells}
 use Rattle.cells.specs.Rules.{ownAt, newestSeen, conflict, valued}

@@ -1,7 +1,12 @@
 -- Laws for the proofs of this crate and of those above it, and its theorems.
-pub mod Tests
-pub mod Cases
 pub mod Places
 pub mod Checks
+pub mod Spent
+pub mod Ends
+pub mod Tests
+pub mod Cases
 pub mod Refusals
+pub mod Exact
+pub mod Keeps
 pub mod Situations
+pub mod Unique

@@ -2,7 +2,7 @@
 --     situations     each of the situations 1 to 10 answers as document 01 says
 -- Assumes nothing.
 use mathlib.Core.Path.{_≡_, refl}
-use mathlib.Core.Bool.{Bool, true}
+use mathlib.Core.Bool.{true}
 use Rattle.cells.specs.Cells.{cellsOf, pastCells, wordsOf, withCells}
 use Rattle.cells.specs.Rules.{lowestFrom, hasCell, newest, ownAt, foreignWith, newestSeen, conflict}
 use Rattle.steps.specs.Shape.{inShape}

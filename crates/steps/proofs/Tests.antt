@@ -24,6 +24,9 @@ pub and-right : (a b : Bool) → (a && b) ≡ true → b ≡ true
 and-right true b e = e
 and-right false b e = absurd (false≢true e)
 
+pub or-neither : {a b : Bool} → a ≡ false → b ≡ false → (a || b) ≡ false
+or-neither p q = cc
+
 pub or-left : (a b : Bool) → (a || b) ≡ false → a ≡ false
 or-left true b e = e
 or-left false b e = refl

@@ -1,7 +1,7 @@
 -- What comes back: the column "Given when" of document 01's table, whole. Rows 1 to 8 are those of Check.
 -- Assumes nothing.
 use Prim.Native.Nat.{ℕ}
-use mathlib.Core.Bool.{Bool, true, false, not, _&&_}
+use mathlib.Core.Bool.{Bool, false, not, _&&_}
 use mathlib.Core.List.{List, [], _∷_}
 use lib.ListN.{length, getD}
 use Rattle.records.specs.declared.Call.{Call}

@@ -1,11 +1,15 @@
 // The record and its steps.
+use cells::Cell;
+use cells::Found;
 use records::Answer;
 use records::Call;
 ghost use mathlib.Core.Path.{_≡_};
 ghost use lib.ListN.{length, drop};
+ghost use Rattle.cells.specs.Cells.{cellsOf};
 ghost use Rattle.steps.specs.Record.{freshBoard, idlePlace, isIdle, isOpen, isSpoiled, isPrepared};
 ghost use Rattle.steps.specs.Shape.{held, hasNumber, distinct, counted, each, inShape};
 ghost use Rattle.steps.specs.Check.{isStart, needsOpen, needsUnspoiled, keyOf, placeCheck, checkOf};
+ghost use Rattle.steps.specs.Spent.{reusable, heldBack};
 ghost use Rattle.steps.specs.Step.{outcome, step, inState};
 
 // A place is idle or has one transaction.
@@ -63,10 +67,7 @@ impl Board {
     {
         let check = self.check(cells.len(), Call::Start { place });
         if records::number(check) != 0 {
-            return Answered {
-                answer: check,
-                board: self,
-            };
+            return self.with(check);
         }
         let at = place as usize;
         let next = self.starts + 1;
@@ -76,10 +77,65 @@ impl Board {
             view: self.commits,
         };
         self.starts = next;
-        Answered {
-            answer: Answer::Ok(next),
-            board: self,
+        self.with(Answer::Ok(next))
+    }
+
+    // Read: the own value, or what the view sees, unless a prepared writer holds it back.
+    pub fn read(mut self, cells: &[u32], place: u32, key: u32) -> Answered
+        ensures { λ r. ⌜ outcome r (now (cells .entry)) ≡ step self (now (cells .entry)) (Call.Read place key) ⌝ }
+    {
+        let check = self.check(cells.len(), Call::Read { place, key });
+        if records::number(check) != 0 {
+            return self.with(check);
         }
+        let at = place as usize;
+        let p = self.places[at];
+        let mine = cells::own_at(cells, key, p.number);
+        if let Found::At(i) = mine {
+            let c = cells::cell_at(cells, i);
+            return self.with(Answer::Ok(c.value));
+        }
+        let places = self.places;
+        if held_back(cells, places, key, p.number) {
+            return self.with(Answer::Prepared);
+        }
+        let c = cells::newest_seen(cells, key, p.view);
+        self.with(Answer::Ok(c.value))
+    }
+
+    // Update: in the own cell, or else in an empty or spent one, unless another write clashes.
+    pub fn update(mut self, cells: &mut [u32], place: u32, key: u32, value: u32) -> Answered
+        ensures { λ r. ⌜ outcome r (now (cells .exit)) ≡ step self (now (cells .entry)) (Call.Update place key value) ⌝ }
+    {
+        let check = self.check(cells.len(), Call::Update { place, key, value });
+        if records::number(check) != 0 {
+            return self.with(check);
+        }
+        let at = place as usize;
+        let p = self.places[at];
+        let mine = cells::own_at(cells, key, p.number);
+        if let Found::At(i) = mine {
+            let c = cells::cell_at(cells, i);
+            cells::put_cell(cells, i, c.valued(value));
+            return self.with(Answer::Ok(0));
+        }
+        if cells::conflicts(cells, key, p.number, p.view) {
+            self.places[at] = p.in_state(State::Spoiled);
+            return self.with(Answer::Conflict);
+        }
+        let places = self.places;
+        let free = reusable(cells, places);
+        let Found::At(i) = free else {
+            return self.with(Answer::Full);
+        };
+        let c = Cell {
+            word: key + 1,
+            value,
+            number: p.number,
+            commit: 0,
+        };
+        cells::put_cell(cells, i, c);
+        self.with(Answer::Ok(0))
     }
 
     // Prepare: the state becomes prepared.
@@ -88,18 +144,44 @@ impl Board {
     {
         let check = self.check(cells.len(), Call::Prepare { place });
         if records::number(check) != 0 {
-            return Answered {
-                answer: check,
-                board: self,
-            };
+            return self.with(check);
         }
         let at = place as usize;
         let p = self.places[at];
         self.places[at] = p.in_state(State::Prepared);
-        Answered {
-            answer: Answer::Ok(0),
-            board: self,
+        self.with(Answer::Ok(0))
+    }
+
+    // Commit: every own cell takes the next commit number; the place becomes idle.
+    pub fn commit(mut self, cells: &mut [u32], place: u32) -> Answered
+        ensures { λ r. ⌜ outcome r (now (cells .exit)) ≡ step self (now (cells .entry)) (Call.Commit place) ⌝ }
+    {
+        let check = self.check(cells.len(), Call::Commit { place });
+        if records::number(check) != 0 {
+            return self.with(check);
         }
+        let at = place as usize;
+        let p = self.places[at];
+        let commit = self.commits + 1;
+        cells::stamp(cells, p.number, commit);
+        self.places[at] = Place::idle();
+        self.commits = commit;
+        self.with(Answer::Ok(commit))
+    }
+
+    // Rollback: every own cell becomes four zeros; the place becomes idle.
+    pub fn rollback(mut self, cells: &mut [u32], place: u32) -> Answered
+        ensures { λ r. ⌜ outcome r (now (cells .exit)) ≡ step self (now (cells .entry)) (Call.Rollback place) ⌝ }
+    {
+        let check = self.check(cells.len(), Call::Rollback { place });
+        if records::number(check) != 0 {
+            return self.with(check);
+        }
+        let at = place as usize;
+        let p = self.places[at];
+        cells::wipe(cells, p.number);
+        self.places[at] = Place::idle();
+        self.with(Answer::Ok(0))
     }
 
     // Whether the board is in shape, with so many lent words. The sum is taken where it cannot wrap.
@@ -112,6 +194,16 @@ impl Board {
             & (self.commits as u64 + n as u64 <= self.starts as u64)
             & self.has_distinct()
             & self.has_counted()
+    }
+
+    // The record handed back with an answer.
+    fn with(self, answer: Answer) -> Answered
+        ensures { λ r. ⌜ r ≡ record { answer = answer; board = self } ⌝ }
+    {
+        Answered {
+            answer,
+            board: self,
+        }
     }
 
     // The checks 1 to 8, in their order: the refusal, or OK.
@@ -293,6 +385,59 @@ impl Place {
         }
         Answer::Ok(0)
     }
+}
+
+// The lowest-numbered empty or spent cell.
+pub fn reusable(cells: &[u32], places: [Place; Board::PLACES]) -> Found
+    ensures { λ r. ⌜ r ≡ reusable places (cellsOf (now (cells .entry))) ⌝ }
+{
+    let n = cells::count(cells);
+    let mut i = 0;
+    'cells: while i < n {
+        let at = i;
+        let c = cells::cell_at(cells, at);
+        i += 1;
+        if c.empty() {
+            return Found::At(at);
+        }
+        if !c.committed() {
+            continue 'cells;
+        }
+        if !cells::outdated(cells, c) {
+            continue 'cells;
+        }
+        let mut j = 0;
+        'places: while j < Board::PLACES {
+            let p = places[j];
+            j += 1;
+            if !p.is_open() {
+                continue 'places;
+            }
+            if cells::kept(cells, c, p.view) {
+                continue 'cells;
+            }
+        }
+        return Found::At(at);
+    }
+    Found::Nothing
+}
+
+// Whether a foreign cell of the key has the number of a transaction at a prepared place.
+pub fn held_back(cells: &[u32], places: [Place; Board::PLACES], key: u32, number: u32) -> bool
+    ensures { λ r. ⌜ r ≡ heldBack key number places (cellsOf (now (cells .entry))) ⌝ }
+{
+    let mut j = 0;
+    while j < Board::PLACES {
+        let p = places[j];
+        j += 1;
+        if !p.is_prepared() {
+            continue;
+        }
+        if cells::foreign_with(cells, key, number, p.number) {
+            return true;
+        }
+    }
+    false
 }
 
 // A start.

@@ -20,10 +20,14 @@ check-requires c κs = search needs
 number-requires : tie.Need-number-requires
 number-requires c κs = search needs
 
+with-requires : tie.Need-with-requires
+with-requires c κs = search needs
+
 returns : tie.Need-returns
 returns c =
-    let a = c .before .before .before .before .args in
-    refused (a .t1) (a .cells .now) (Call.Prepare (a .place)) (c .before .before .check .ensures) (c .before .number .ensures) (c .if1 .taken)
+    let a = c .before .before .before .before .before .args in
+    refused (a .t1) (a .cells .now) (Call.Prepare (a .place))
+    (c .before .before .before .check .ensures) (c .before .before .number .ensures) (c .before .if1 .taken) (c .with .ensures)
 
 mul-p : tie.Need-mul-p
 mul-p c = search needs
@@ -40,11 +44,14 @@ mul-t9 c = search needs
 element-set-from-self : tie.Need-element-set-from-self
 element-set-from-self c = go (c .before .before) .below
 
+with-requires-2 : tie.Need-with-requires-2
+with-requires-2 c κs = search needs
+
 returns-2 : tie.Need-returns-2
 returns-2 c =
-    let a = c .before .before .before .before .before .before .args in
-    go (c .before .before) .is
-    (ap (λ (p : Place). answered (Answer.Ok 0) (withPlace (a .t1) (a .place) p) (a .cells .now)) (c .in-state .ensures))
+    let a = c .before .before .before .before .before .before .before .args in
+    go (c .before .before .before) .is (c .with2 .ensures)
+    (ap (λ (p : Place). answered (Answer.Ok 0) (withPlace (a .t1) (a .place) p) (a .cells .now)) (c .before .in-state .ensures))
 
 pub prepare-spec : {M : Type 1} → statement M
 prepare-spec =
@@ -52,10 +59,12 @@ prepare-spec =
     (tie.spec
     check-requires
     number-requires
+    with-requires
     returns
     mul-p
     element-copy-out-p
     in-state-requires
     mul-t9
     element-set-from-self
+    with-requires-2
     returns-2)

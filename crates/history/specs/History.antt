@@ -1,0 +1,244 @@
+-- What happened at a board, told from the pairs of call and answer alone; and what demand 3 says of it.
+-- No cell is looked at, and no number that the store hands out: only the last board is, in `holds`.
+-- Assumes nothing.
+use mathlib.Core.Path.{_≡_}
+use mathlib.Core.Logic.{_↔_, _⊎_}
+use mathlib.Core.Bool.{Bool, cond}
+use mathlib.Core.List.{List, [], _∷_, _++_}
+use mathlib.Core.Option.{Option, none, some, Option·getD}
+use Prim.Native.Nat.{ℕ, _+_, _≤_, _<_}
+use lib.Dec.{eqb}
+use lib.ListN.{length, getD, take, replicate}
+use Rattle.records.specs.declared.Call.{Call}
+use Rattle.records.specs.declared.Answer.{Answer}
+use Rattle.records.specs.Answers.{numberOf}
+use Rattle.cells.specs.Cells.{noCell, cellsOf, wordsOf}
+use Rattle.cells.specs.Rules.{newestSeen}
+use Rattle.steps.specs.declared.State.{State}
+use Rattle.steps.specs.declared.Board.{Board}
+use Rattle.steps.specs.Record.{allPlaces, allKeys, mostCells, freshBoard}
+use Rattle.steps.specs.Step.{step}
+
+-- A PAIR
+
+-- a call, and the number and value of its answer as document 01's table has them
+pub record Pair : Type 0 where
+  pub call : Call
+  pub number : ℕ
+  pub value : ℕ
+
+abbrev pub answeredBy : Call → ℕ → ℕ → Pair
+answeredBy c n v = record { call = c; number = n; value = v }
+
+-- 0 OK: done
+abbrev pub isOk : ℕ → Bool
+isOk n = eqb n 0
+
+-- 9 CONFLICT
+abbrev pub isConflict : ℕ → Bool
+isConflict n = eqb n (numberOf Answer.Conflict)
+
+-- A TRANSACTION
+
+-- an accepted read or update: the key, and the value read or written
+pub data Event : Type 0 where
+  read : ℕ → ℕ → Event
+  write : ℕ → ℕ → Event
+
+-- the last value written to a key, if there is one; the events stand with the last one first
+abbrev pub lastWrite : List Event → ℕ → Option ℕ
+lastWrite [] k = none
+lastWrite (read j v ∷ es) k = lastWrite es k
+lastWrite (write j v ∷ es) k = cond (eqb k j) (some v) (lastWrite es k)
+
+abbrev pub Wrote : List Event → ℕ → Type 0
+Wrote es k = (v : ℕ) × (lastWrite es k ≡ some v)
+
+-- the transaction at a place: its state, how many calls were answered before its start, how many transactions had committed when it
+-- started, and what it did, the last first
+pub record Run : Type 0 where
+  pub state : State
+  pub began : ℕ
+  pub seen : ℕ
+  pub did : List Event
+
+-- a committed transaction; `ended` is how many calls were answered before its commit
+pub record Done : Type 0 where
+  pub began : ℕ
+  pub ended : ℕ
+  pub seen : ℕ
+  pub did : List Event
+
+abbrev pub nobody : Run
+nobody = record { state = State.Idle; began = 0; seen = 0; did = [] }
+
+abbrev pub nothing : Done
+nothing = record { began = 0; ended = 0; seen = 0; did = [] }
+
+-- THE LEDGER
+
+-- how many calls were answered, how many starts were accepted, the transaction at each place, and the committed ones in commit order
+pub record Ledger : Type 0 where
+  pub calls : ℕ
+  pub starts : ℕ
+  pub at : ℕ → Run
+  pub past : List Done
+
+abbrev pub newLedger : Ledger
+newLedger = record { calls = 0; starts = 0; at = λ p. nobody; past = [] }
+
+abbrev pub doneAt : Ledger → ℕ → Done
+doneAt L m = getD (L .past) m nothing
+
+-- another transaction at place p
+abbrev pub put : (ℕ → Run) → ℕ → Run → ℕ → Run
+put f p r q = cond (eqb q p) r (f q)
+
+-- one more call: the transactions at the places and the committed ones after it
+abbrev pub tick : Ledger → (ℕ → Run) → List Done → Ledger
+tick L f ds = record { calls = L .calls + 1; starts = L .starts; at = f; past = ds }
+
+-- one more call, a start
+abbrev pub opened : Ledger → (ℕ → Run) → Ledger
+opened L f = record { calls = L .calls + 1; starts = L .starts + 1; at = f; past = L .past }
+
+-- the transaction that a start begins
+abbrev pub begun : Ledger → Run
+begun L = record { state = State.Open; began = L .calls; seen = length (L .past); did = [] }
+
+-- a transaction in another state
+abbrev pub turned : State → Run → Run
+turned s r = record { state = s; began = r .began; seen = r .seen; did = r .did }
+
+-- a transaction that did one thing more
+abbrev pub doing : Event → Run → Run
+doing e r = record { state = r .state; began = r .began; seen = r .seen; did = e ∷ r .did }
+
+-- a transaction that commits
+abbrev pub ended : Ledger → Run → Done
+ended L r = record { began = r .began; ended = L .calls; seen = r .seen; did = r .did }
+
+-- an accepted call, answered with the value v
+unfoldable pub accept : Ledger → Call → ℕ → Ledger
+accept L (Call.Start p) v = opened L (put (L .at) p (begun L))
+accept L (Call.Read p k) v = tick L (put (L .at) p (doing (read k v) (L .at p))) (L .past)
+accept L (Call.Update p k new) v = tick L (put (L .at) p (doing (write k new) (L .at p))) (L .past)
+accept L (Call.Prepare p) v = tick L (put (L .at) p (turned State.Prepared (L .at p))) (L .past)
+accept L (Call.Commit p) v = tick L (put (L .at) p nobody) (L .past ++ (ended L (L .at p) ∷ []))
+accept L (Call.Rollback p) v = tick L (put (L .at) p nobody) (L .past)
+
+-- a refused call leaves no trace; only CONFLICT, which an update meets, sets one state to spoiled
+unfoldable pub refuse : Ledger → Call → ℕ → Ledger
+refuse L (Call.Start p) n = tick L (L .at) (L .past)
+refuse L (Call.Read p k) n = tick L (L .at) (L .past)
+refuse L (Call.Update p k new) n =
+    tick L (cond (isConflict n) (put (L .at) p (turned State.Spoiled (L .at p))) (L .at)) (L .past)
+refuse L (Call.Prepare p) n = tick L (L .at) (L .past)
+refuse L (Call.Commit p) n = tick L (L .at) (L .past)
+refuse L (Call.Rollback p) n = tick L (L .at) (L .past)
+
+-- one more pair
+abbrev pub note : Ledger → Call → ℕ → ℕ → Ledger
+note L c n v = cond (isOk n) (accept L c v) (refuse L c n)
+
+unfoldable pub ledgerFrom : Ledger → List Pair → Ledger
+ledgerFrom L [] = L
+ledgerFrom L (h ∷ hs) = ledgerFrom (note L (h .call) (h .number) (h .value)) hs
+
+-- the ledger of a history
+abbrev pub ledger : List Pair → Ledger
+ledger hs = ledgerFrom newLedger hs
+
+-- WHAT COMMITTED TRANSACTIONS LEAVE
+
+-- what a store holds for a key once these ran on it, one after the other
+unfoldable pub leaveFrom : (ℕ → ℕ) → List Done → ℕ → ℕ
+leaveFrom s [] k = s k
+leaveFrom s (d ∷ ds) k = leaveFrom (λ j. Option·getD (lastWrite (d .did) j) (s j)) ds k
+
+-- a key never written reads as 0
+abbrev pub leave : List Done → ℕ → ℕ
+leave ds k = leaveFrom (λ j. 0) ds k
+
+-- A RUN
+
+-- n empty cells: every word 0
+abbrev pub emptyWords : ℕ → List ℕ
+emptyWords n = wordsOf (replicate n noCell)
+
+-- what a sequence of calls comes to: the pairs, the last record and the last words
+pub record Play : Type 0 where
+  pub pairs : List Pair
+  pub board : Board
+  pub words : List ℕ
+
+-- any sequence of calls, the board passed on untouched between them
+unfoldable pub run : Board → List ℕ → List Call → Play
+run b ws [] = record { pairs = []; board = b; words = ws }
+run b ws (c ∷ cs) =
+    let o = step b ws c in
+    let later = run (o .board) (o .words) cs in
+    record { pairs = answeredBy c (o .number) (o .value) ∷ later .pairs; board = later .board; words = later .words }
+
+-- take a fresh board of n cells
+abbrev pub fromFresh : ℕ → List Call → Play
+fromFresh n cs = run freshBoard (emptyWords n) cs
+
+-- DEMAND 3
+
+-- that transaction's own last write to the key, or else what the first n committed transactions leave when run one after the other, n
+-- being how many had committed when it started
+abbrev pub sees : Ledger → ℕ → ℕ → ℕ
+sees L p k = Option·getD (lastWrite (L .at p .did) k) (leave (take (L .at p .seen) (L .past)) k)
+
+-- each read answered shows what it sees
+abbrev pub ReadsRight : List Pair → Type 0
+ReadsRight hs = (before after : List Pair) (p k v : ℕ) → hs ≡ before ++ (answeredBy (Call.Read p k) 0 v ∷ after)
+    → v ≡ sees (ledger before) p k
+
+-- two committed transactions overlapped if each started before the other committed
+abbrev pub Overlapped : Done → Done → Type 0
+Overlapped c d = (c .began < d .ended) × (d .began < c .ended)
+
+-- no two committed transactions that overlapped wrote the same key
+abbrev pub OverlappedApart : List Pair → Type 0
+OverlappedApart hs = (i j : ℕ) → i < j → j < length (ledger hs .past) → Overlapped (doneAt (ledger hs) i) (doneAt (ledger hs) j)
+    → (k : ℕ) → Wrote (doneAt (ledger hs) i .did) k → Wrote (doneAt (ledger hs) j .did) k → ⊥
+
+-- an update that gets as far as the conflict test, by the history and not by the answer: place and key in range, an open transaction
+-- that has not written the key
+pub record Reaches (L : Ledger) (p k : ℕ) : Type 0 where
+  pub place : p < allPlaces
+  pub key : k < allKeys
+  pub state : L .at p .state ≡ State.Open
+  pub first : lastWrite (L .at p .did) k ≡ none
+
+-- the key carries another unfinished transaction's write or one committed since the start
+abbrev pub Contested : Ledger → ℕ → ℕ → Type 0
+Contested L p k =
+    ((q : ℕ) × (q < allPlaces) × (q ≡ p → ⊥) × Wrote (L .at q .did) k)
+    ⊎ ((m : ℕ) × (L .at p .seen ≤ m) × (m < length (L .past)) × Wrote (doneAt L m .did) k)
+
+-- an update that gets as far as the conflict test is refused for conflict exactly when the key is contested
+abbrev pub ConflictsExact : List Pair → Type 0
+ConflictsExact hs = (before after : List Pair) (p k new n v : ℕ) → hs ≡ before ++ (answeredBy (Call.Update p k new) n v ∷ after)
+    → Reaches (ledger before) p k
+    → (n ≡ numberOf Answer.Conflict) ↔ Contested (ledger before) p k
+
+-- what a board holds for a key: the value in its committed cell with the greatest commit number; if there is none, 0
+abbrev pub holds : Board → List ℕ → ℕ → ℕ
+holds b ws k = newestSeen k (b .commits) (cellsOf ws) .value
+
+-- the last board holds, for each key, what the committed ones leave in commit order
+abbrev pub LastHolds : List Pair → Board → List ℕ → Type 0
+LastHolds hs b ws = (k : ℕ) → holds b ws k ≡ leave (ledger hs .past) k
+
+pub record Demand3 (played : Play) : Type 0 where
+  pub reads : ReadsRight (played .pairs)
+  pub apart : OverlappedApart (played .pairs)
+  pub conflicts : ConflictsExact (played .pairs)
+  pub final : LastHolds (played .pairs) (played .board) (played .words)
+
+-- for every number of cells from 1 to 1,024 and every list of calls
+abbrev pub Statement : Type 0
+Statement = (n : ℕ) → 0 < n → n ≤ mostCells → (calls : List Call) → Demand3 (fromFresh n calls)

@@ -1,0 +1,120 @@
+-- `Board::read` meets its contract.
+-- Assumes nothing.
+use mathlib.Core.Path.{_≡_, sym, _∙_}
+use borrow.Author.Needs.{needs}
+use Rattle.records.specs.declared.Call.{Call}
+use Rattle.cells.specs.declared.Found.{Found}
+use Rattle.cells.specs.Cells.{cellsOf}
+use Rattle.cells.specs.Rules.{ownAt}
+use Rattle.cells.proofs.Meaning.{own-inside}
+use Rattle.steps.specs.Step.{numberAt}
+use Rattle.steps.proofs.Checks.{Passed, passed, refused}
+use Rattle.steps.proofs.Ends.{read-own, read-held, read-seen}
+use Rattle.steps.proofs.Board.read.Statement.{statement}
+use Rattle.steps.proofs.Board.read.Tie as tie
+
+-- no check has refused
+go : (c : tie.Else1) → (let a = c .before .before .before .before .args in Passed (a .t1) (a .cells .now) (Call.Read (a .place) (a .key)))
+go c = passed _ _ _ (c .before .before .check .ensures) (c .before .number .ensures) (c .if1 .left)
+
+-- an own cell was found, or none
+found : (c : tie.After-known-told)
+    → (let a = c .before .before .before .before .before .before .before .before .before .args in ownAt (a .key) (numberAt (a .t1) (a .place)) (cellsOf (a .cells .now)) ≡ Found.At (c .before .mine .given .0 .0))
+found c = sym (c .before .before .before .own-at .ensures) ∙ c .before .mine .given .1
+
+none : (c : tie.After-enum-told)
+    → (let a = c .before .before .before .before .before .before .before .before .args in ownAt (a .key) (numberAt (a .t1) (a .place)) (cellsOf (a .cells .now)) ≡ Found.Nothing)
+none c = sym (c .before .before .own-at .ensures) ∙ c .enum-told .given .1
+
+check-requires : tie.Need-check-requires
+check-requires c κs = search needs
+
+number-requires : tie.Need-number-requires
+number-requires c κs = search needs
+
+with-requires : tie.Need-with-requires
+with-requires c κs = search needs
+
+returns : tie.Need-returns
+returns c =
+    let a = c .before .before .before .before .before .args in
+    refused (a .t1) (a .cells .now) (Call.Read (a .place) (a .key))
+    (c .before .before .before .check .ensures) (c .before .before .number .ensures) (c .before .if1 .taken) (c .with .ensures)
+
+mul-p : tie.Need-mul-p
+mul-p c = search needs
+
+element-copy-out-p : tie.Need-element-copy-out-p
+element-copy-out-p c = go c .below
+
+own-at-requires : tie.Need-own-at-requires
+own-at-requires c κs = search needs
+
+enum-known-mine : tie.Need-enum-known-mine
+enum-known-mine c = search needs
+
+cell-at-requires : tie.Need-cell-at-requires
+cell-at-requires c κs =
+    let a = c .before .before .before .before .before .before .before .before .before .args in
+    own-inside (a .key) (numberAt (a .t1) (a .place)) (a .cells .now) _ (found c)
+
+with-requires-2 : tie.Need-with-requires-2
+with-requires-2 c κs = search needs
+
+returns-2 : tie.Need-returns-2
+returns-2 c =
+    let a = c .before .before .before .before .before .before .before .before .before .before .before .args in
+    go (c .before .before .before .before .before .before .before) .is (c .with2 .ensures)
+    (read-own (a .t1) (a .cells .now) (a .place) (a .key) (found (c .before .before)) (c .before .cell-at .ensures))
+
+enum-told : tie.Need-enum-told
+enum-told c = search needs
+
+held-back-requires : tie.Need-held-back-requires
+held-back-requires c κs = search needs
+
+with-requires-3 : tie.Need-with-requires-3
+with-requires-3 c κs = search needs
+
+returns-3 : tie.Need-returns-3
+returns-3 c =
+    let a = c .before .before .before .before .before .before .before .before .before .before .before .before .args in
+    go (c .before .before .before .before .before .before .before .before) .is (c .with3 .ensures)
+    (read-held (a .t1) (a .cells .now) (a .place) (a .key) (none (c .before .before .before .before))
+    (sym (c .before .before .held-back .ensures) ∙ c .before .if2 .taken))
+
+newest-seen-requires : tie.Need-newest-seen-requires
+newest-seen-requires c κs = search needs
+
+with-requires-4 : tie.Need-with-requires-4
+with-requires-4 c κs = search needs
+
+returns-4 : tie.Need-returns-4
+returns-4 c =
+    let a = c .before .before .before .before .before .before .before .before .before .before .before .before .before .args in
+    go (c .before .before .before .before .before .before .before .before .before) .is (c .with4 .ensures)
+    (read-seen (a .t1) (a .cells .now) (a .place) (a .key) (none (c .before .before .before .before .before))
+    (sym (c .before .before .before .held-back .ensures) ∙ c .before .before .if2 .left) (c .before .newest-seen .ensures))
+
+pub read-spec : {M : Type 1} → statement M
+read-spec =
+    tie.close
+    (tie.spec
+    check-requires
+    number-requires
+    with-requires
+    returns
+    mul-p
+    element-copy-out-p
+    own-at-requires
+    enum-known-mine
+    cell-at-requires
+    with-requires-2
+    returns-2
+    enum-told
+    held-back-requires
+    with-requires-3
+    returns-3
+    newest-seen-requires
+    with-requires-4
+    returns-4)

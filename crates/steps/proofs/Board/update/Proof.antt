@@ -1,0 +1,204 @@
+-- `Board::update` meets its contract.
+-- Assumes nothing.
+use mathlib.Core.Path.{_≡_, sym, _∙_}
+use mathlib.Core.Bool.{false}
+use native.Mathlib.Omega.{arith}
+use borrow.Author.Needs.{needs}
+use Rattle.records.specs.declared.Call.{Call}
+use Rattle.cells.specs.declared.Found.{Found}
+use Rattle.cells.specs.Cells.{cellsOf}
+use Rattle.cells.specs.Rules.{ownAt, conflict}
+use Rattle.cells.proofs.Meaning.{own-inside}
+use Rattle.steps.specs.Spent.{reusable}
+use Rattle.steps.specs.Step.{numberAt, viewAt}
+use Rattle.steps.proofs.Checks.{Passed, passed, refused}
+use Rattle.steps.proofs.Spent.{free-inside}
+use Rattle.steps.proofs.Ends.{update-own, update-clash, update-free, update-full}
+use Rattle.steps.proofs.Board.update.Statement.{statement}
+use Rattle.steps.proofs.Board.update.Tie as tie
+
+-- no check has refused
+go : (c : tie.Else1) → (let a = c .before .before .before .before .args in Passed (a .t1) (a .cells .now) (Call.Update (a .place) (a .key) (a .value)))
+go c = passed _ _ _ (c .before .before .check .ensures) (c .before .number .ensures) (c .if1 .left)
+
+-- an own cell was found, or none
+found : (c : tie.After-known-told)
+    → (let a = c .before .before .before .before .before .before .before .before .before .before .args in ownAt (a .key) (numberAt (a .t1) (a .place)) (cellsOf (a .cells .now)) ≡ Found.At (c .before .mine .given .0 .0))
+found c = sym (c .before .before .before .own-at .ensures) ∙ c .before .mine .given .1
+
+none : (c : tie.After-enum-told)
+    → (let a = c .before .before .before .before .before .before .before .before .before .args in ownAt (a .key) (numberAt (a .t1) (a .place)) (cellsOf (a .cells .now)) ≡ Found.Nothing)
+none c = sym (c .before .before .own-at .ensures) ∙ c .enum-told .given .1
+
+-- nothing clashes
+clear : (c : tie.Else2)
+    → (let a = c .before .before .before .before .before .before .before .before .before .before .before .before .args in
+    conflict (a .key) (numberAt (a .t1) (a .place)) (viewAt (a .t1) (a .place)) (cellsOf (a .cells .now)) ≡ false)
+clear c = sym (c .before .conflicts .ensures) ∙ c .if2 .left
+
+-- a free cell was found
+room : (c : tie.After-known-told2)
+    → (let a = c .before .before .before .before .before .before .before .before .before .before .before .before .before .before .before .before .before .before .args in reusable (a .t1 .places) (cellsOf (a .cells .now)) ≡ Found.At (c .before .free .given .0 .0))
+room c = sym (c .before .before .before .reusable .ensures) ∙ c .before .free .given .1
+
+check-requires : tie.Need-check-requires
+check-requires c κs = search needs
+
+number-requires : tie.Need-number-requires
+number-requires c κs = search needs
+
+with-requires : tie.Need-with-requires
+with-requires c κs = search needs
+
+returns : tie.Need-returns
+returns c =
+    let a = c .before .before .before .before .before .args in
+    refused (a .t1) (a .cells .now) (Call.Update (a .place) (a .key) (a .value))
+    (c .before .before .before .check .ensures) (c .before .before .number .ensures) (c .before .if1 .taken) (c .with .ensures)
+
+mul-p : tie.Need-mul-p
+mul-p c = search needs
+
+element-copy-out-p : tie.Need-element-copy-out-p
+element-copy-out-p c = go c .below
+
+own-at-requires : tie.Need-own-at-requires
+own-at-requires c κs = search needs
+
+enum-known-mine : tie.Need-enum-known-mine
+enum-known-mine c = search needs
+
+cell-at-requires : tie.Need-cell-at-requires
+cell-at-requires c κs =
+    let a = c .before .before .before .before .before .before .before .before .before .before .before .args in
+    own-inside (a .key) (numberAt (a .t1) (a .place)) (a .cells .now) _ (found (c .before))
+
+valued-requires : tie.Need-valued-requires
+valued-requires c κs = search needs
+
+put-cell-requires : tie.Need-put-cell-requires
+put-cell-requires c κs =
+    let a = c .before .before .before .before .before .before .before .before .before .before .before .before .before .before .args in
+    own-inside (a .key) (numberAt (a .t1) (a .place)) (a .cells .now) _ (found (c .before .before .before .before))
+
+with-requires-2 : tie.Need-with-requires-2
+with-requires-2 c κs = search needs
+
+same-length : tie.Need-same-length
+same-length c = search needs
+
+returns-2 : tie.Need-returns-2
+returns-2 c =
+    let a = c .before .before .before .before .before .before .before .before .before .before .before .before .before .before .before .before .before .before .args in
+    go (c .before .before .before .before .before .before .before .before .before .before .before .before .before .before) .is (c .with2 .ensures)
+    (update-own (a .t1) (a .cells .now) (a .place) (a .key) (a .value) (found (c .before .before .before .before .before .before .before .before))
+    (c .before .before .before .before .before .before .cell-at .ensures) (c .before .before .before .before .valued .ensures) (c .before .before .before .put-cell .ensures))
+
+enum-told : tie.Need-enum-told
+enum-told c = search needs
+
+conflicts-requires : tie.Need-conflicts-requires
+conflicts-requires c κs = search needs
+
+in-state-requires : tie.Need-in-state-requires
+in-state-requires c κs = search needs
+
+mul-t41 : tie.Need-mul-t41
+mul-t41 c = search needs
+
+element-set-from-self : tie.Need-element-set-from-self
+element-set-from-self c = go (c .before .before .before .before .before .before .before .before .before) .below
+
+with-requires-3 : tie.Need-with-requires-3
+with-requires-3 c κs = search needs
+
+same-length-2 : tie.Need-same-length-2
+same-length-2 c = search needs
+
+returns-3 : tie.Need-returns-3
+returns-3 c =
+    let a = c .before .before .before .before .before .before .before .before .before .before .before .before .before .before .args in
+    go (c .before .before .before .before .before .before .before .before .before .before) .is (c .with3 .ensures)
+    (update-clash (a .t1) (a .cells .now) (a .place) (a .key) (a .value) (none (c .before .before .before .before .before))
+    (sym (c .before .before .before .conflicts .ensures) ∙ c .before .before .if2 .taken) (c .before .in-state .ensures))
+
+reusable-requires : tie.Need-reusable-requires
+reusable-requires c κs = search needs
+
+enum-known-free : tie.Need-enum-known-free
+enum-known-free c = search needs
+
+enum-told-2 : tie.Need-enum-told-2
+enum-told-2 c = search needs
+
+with-requires-4 : tie.Need-with-requires-4
+with-requires-4 c κs = search needs
+
+same-length-3 : tie.Need-same-length-3
+same-length-3 c = search needs
+
+returns-4 : tie.Need-returns-4
+returns-4 c =
+    let a = c .before .before .before .before .before .before .before .before .before .before .before .before .before .before .before .before .before .before .args in
+    go (c .before .before .before .before .before .before .before .before .before .before .before .before .before .before) .is (c .with4 .ensures)
+    (update-full (a .t1) (a .cells .now) (a .place) (a .key) (a .value) (none (c .before .before .before .before .before .before .before .before .before)) (clear (c .before .before .before .before .before .before))
+    (sym (c .before .before .before .reusable .ensures) ∙ c .before .enum-told2 .given .1))
+
+add-t50 : tie.Need-add-t50
+add-t50 c = omega (arith, go (c .before .before .before .before .before .before .before .before .before .before .before .before .before .before) .keyed)
+
+put-cell-requires-2 : tie.Need-put-cell-requires-2
+put-cell-requires-2 c κs =
+    let a = c .before .before .before .before .before .before .before .before .before .before .before .before .before .before .before .before .before .before .before .args in
+    free-inside (a .t1 .places) (a .cells .now) _ (room (c .before))
+
+with-requires-5 : tie.Need-with-requires-5
+with-requires-5 c κs = search needs
+
+same-length-4 : tie.Need-same-length-4
+same-length-4 c = search needs
+
+returns-5 : tie.Need-returns-5
+returns-5 c =
+    let a = c .before .before .before .before .before .before .before .before .before .before .before .before .before .before .before .before .before .before .before .before .before .before .before .args in
+    go (c .before .before .before .before .before .before .before .before .before .before .before .before .before .before .before .before .before .before .before) .is (c .with5 .ensures)
+    (update-free (a .t1) (a .cells .now) (a .place) (a .key) (a .value) (none (c .before .before .before .before .before .before .before .before .before .before .before .before .before .before)) (clear (c .before .before .before .before .before .before .before .before .before .before .before))
+    (room (c .before .before .before .before .before)) (c .before .before .before .put-cell2 .ensures))
+
+pub update-spec : {M : Type 1} → statement M
+update-spec =
+    tie.close
+    (tie.spec
+    check-requires
+    number-requires
+    with-requires
+    returns
+    mul-p
+    element-copy-out-p
+    own-at-requires
+    enum-known-mine
+    cell-at-requires
+    valued-requires
+    put-cell-requires
+    with-requires-2
+    same-length
+    returns-2
+    enum-told
+    conflicts-requires
+    in-state-requires
+    mul-t41
+    element-set-from-self
+    with-requires-3
+    same-length-2
+    returns-3
+    reusable-requires
+    enum-known-free
+    enum-told-2
+    with-requires-4
+    same-length-3
+    returns-4
+    add-t50
+    put-cell-requires-2
+    with-requires-5
+    same-length-4
+    returns-5)

@@ -1,0 +1,108 @@
+-- `held_back` meets its contract. The invariant: what is left to look at answers for the whole.
+-- Assumes nothing.
+use mathlib.Core.Path.{_≡_, refl, sym, _∙_}
+use mathlib.Core.Bool.{false, true}
+use Prim.Native.Nat.{_≤_, _-_}
+use native.Mathlib.Omega.{arith}
+use borrow.Author.Needs.{needs}
+use borrow.Author.Tests.{not-true, not-false}
+use lib.ListN.{length, drop}
+use Rattle.cells.specs.Cells.{cellsOf}
+use Rattle.steps.specs.Record.{allPlaces}
+use Rattle.steps.specs.Spent.{hasPlace, holdsBack, heldBack}
+use Rattle.steps.proofs.Spent.{place-here, place-next, place-end, and-is}
+use Rattle.steps.proofs.held_back.Statement.{statement}
+use Rattle.steps.proofs.held_back.Tie as tie
+
+abbrev Inv-loop : tie.InvT-loop
+Inv-loop cells key number places j₀ j =
+    (j ≤ allPlaces)
+    × (heldBack key number places (cellsOf cells) ≡ hasPlace (holdsBack key number (cellsOf cells)) (drop j places))
+
+abbrev μ-loop : tie.MeasureT-loop
+μ-loop cells key number places j₀ j = allPlaces - j
+
+loop-holds : tie.Need-loop-holds Inv-loop μ-loop
+unfolding heldBack
+loop-holds c = (search needs, refl)
+
+mul-p : tie.Need-mul-p Inv-loop μ-loop
+mul-p c = search needs
+
+array-copy-out-p : tie.Need-array-copy-out-p Inv-loop μ-loop
+array-copy-out-p c = search needs
+
+add-j : tie.Need-add-j Inv-loop μ-loop
+add-j c = search needs
+
+is-prepared-requires : tie.Need-is-prepared-requires Inv-loop μ-loop
+is-prepared-requires c κs = search needs
+
+loop-less : tie.Need-loop-less Inv-loop μ-loop
+loop-less c = search needs
+
+loop-again : tie.Need-loop-again Inv-loop μ-loop
+loop-again c =
+    let a = c .before .before .before .before .before .before .args in
+    let l = c .before .before .before .before .loop in
+    let h : length (a .t2) ≡ allPlaces = search needs in (
+      search needs,
+      l .inv .1
+          ∙ place-next (holdsBack (a .key) (a .number) (cellsOf (a .cells .now))) (a .t2) (l .j) (omega arith)
+          (and-is (sym (c .before .is-prepared .ensures) ∙ not-true _ (c .if1 .taken)) refl),
+    )
+
+foreign-with-requires : tie.Need-foreign-with-requires Inv-loop μ-loop
+foreign-with-requires c κs = search needs
+
+returns : tie.Need-returns Inv-loop μ-loop
+returns c =
+    let a = c .before .before .before .before .before .before .before .before .args in
+    let l = c .before .before .before .before .before .before .loop in
+    let h : length (a .t2) ≡ allPlaces = search needs in
+    sym
+    (l .inv .1
+    ∙ place-here (holdsBack (a .key) (a .number) (cellsOf (a .cells .now))) (a .t2) (l .j) (omega arith)
+    (and-is (sym (c .before .before .before .is-prepared .ensures) ∙ not-false _ (c .before .before .if1 .left))
+    (sym (c .before .foreign-with .ensures) ∙ c .if2 .taken)))
+
+loop-less-2 : tie.Need-loop-less-2 Inv-loop μ-loop
+loop-less-2 c = search needs
+
+loop-again-2 : tie.Need-loop-again-2 Inv-loop μ-loop
+loop-again-2 c =
+    let a = c .before .before .before .before .before .before .before .before .args in
+    let l = c .before .before .before .before .before .before .loop in
+    let h : length (a .t2) ≡ allPlaces = search needs in (
+      search needs,
+      l .inv .1
+          ∙ place-next (holdsBack (a .key) (a .number) (cellsOf (a .cells .now))) (a .t2) (l .j) (omega arith)
+          (and-is (sym (c .before .before .before .is-prepared .ensures) ∙ not-false _ (c .before .before .if1 .left))
+          (sym (c .before .foreign-with .ensures) ∙ c .if2 .left)),
+    )
+
+returns-2 : tie.Need-returns-2 Inv-loop μ-loop
+returns-2 c =
+    let a = c .before .before .before .args in
+    let l = c .before .loop in
+    let h : length (a .t2) ≡ allPlaces = search needs in
+    sym (l .inv .1 ∙ place-end (holdsBack (a .key) (a .number) (cellsOf (a .cells .now))) (a .t2) (l .j) (omega arith))
+
+pub held-back-spec : {M : Type 1} → statement M
+held-back-spec =
+    tie.close
+    (tie.spec
+    Inv-loop
+    μ-loop
+    loop-holds
+    mul-p
+    array-copy-out-p
+    add-j
+    is-prepared-requires
+    loop-less
+    loop-again
+    foreign-with-requires
+    returns
+    loop-less-2
+    loop-again-2
+    returns-2)

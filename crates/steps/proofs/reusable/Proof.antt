@@ -1,0 +1,240 @@
+-- `reusable` meets its contract. Outer invariant: the lowest free cell is the lowest of those yet to be looked at.
+-- Inner invariant: a place that keeps the cell is one of those yet to be looked at.
+-- Assumes nothing.
+use mathlib.Core.Path.{_≡_, refl, sym, ap, _∙_}
+use mathlib.Core.Bool.{Bool, true, false, not}
+use Prim.Native.Nat.{_+_, _-_, _≤_}
+use native.Mathlib.Omega.{arith}
+use borrow.Author.Needs.{needs}
+use borrow.Author.Tests.{not-true, not-false}
+use lib.ListN.{length, drop}
+use Rattle.cells.specs.declared.Found.{Found}
+use Rattle.cells.specs.Cells.{cellsOf}
+use Rattle.cells.specs.Rules.{lowestFrom}
+use Rattle.cells.proofs.Scan.{lowest-here, lowest-next, lowest-end}
+use Rattle.steps.specs.Record.{allPlaces}
+use Rattle.steps.specs.Spent.{hasPlace, keepsAt, free, reusable}
+use Rattle.steps.proofs.Spent.{place-here, place-next, place-end, and-is, free-is}
+use Rattle.steps.proofs.reusable.Statement.{statement}
+use Rattle.steps.proofs.reusable.Tie as tie
+
+abbrev Inv-places : tie.InvT-places
+Inv-places cells places n i at c j₀ j = (j ≤ allPlaces) × (hasPlace (keepsAt (cellsOf cells) c) places ≡ hasPlace (keepsAt (cellsOf cells) c) (drop j places))
+
+abbrev μ-places : tie.MeasureT-places
+μ-places cells places n i at c j₀ j = allPlaces - j
+
+abbrev Inv-cells : tie.InvT-cells
+Inv-cells cells places n i₀ i = (i ≤ n) × (reusable places (cellsOf cells) ≡ lowestFrom i (free places (cellsOf cells)) (drop i (cellsOf cells)))
+
+abbrev μ-cells : tie.MeasureT-cells
+μ-cells cells places n i₀ i = n - i
+
+-- at a cell that is read: whether it is free settles the turn
+abbrev Looked : Type 0
+Looked = tie.After-cell-at Inv-places μ-places Inv-cells μ-cells
+
+here : (c : Looked)
+    → (let a = c .before .before .before .before .before .args in free (a .t2) (cellsOf (a .cells .now)) (c .cell-at .result) ≡ true
+    → Found.At (c .before .before .cells .i) ≡ reusable (a .t2) (cellsOf (a .cells .now)))
+here c e =
+    let a = c .before .before .before .before .before .args in
+    let l = c .before .before .cells in
+    let f = free (a .t2) (cellsOf (a .cells .now)) in
+    sym (l .inv .1 ∙ lowest-here (a .cells .now) (l .i) (search needs) f (sym (ap f (c .cell-at .ensures)) ∙ e))
+
+next : (c : Looked)
+    → (let a = c .before .before .before .before .before .args in
+    let i = c .before .before .cells .i in
+    let f = free (a .t2) (cellsOf (a .cells .now)) in f (c .cell-at .result) ≡ false
+    → reusable (a .t2) (cellsOf (a .cells .now)) ≡ lowestFrom (i + 1) f (drop (i + 1) (cellsOf (a .cells .now))))
+next c e =
+    let a = c .before .before .before .before .before .args in
+    let l = c .before .before .cells in
+    let f = free (a .t2) (cellsOf (a .cells .now)) in
+    l .inv .1 ∙ lowest-next (a .cells .now) (l .i) (search needs) f (sym (ap f (c .cell-at .ensures)) ∙ e)
+
+-- at a cell that is committed and has a newer one: it is free if no place keeps it
+abbrev Old : Type 0
+Old = tie.Else3 Inv-places μ-places Inv-cells μ-cells
+
+kept-or-free : (c : Old) (h : Bool)
+    → (let a = c .before .before .before .before .before .before .before .before .before .before .before .args in
+    let r = c .before .before .before .before .before .before .cell-at .result in hasPlace (keepsAt (cellsOf (a .cells .now)) r) (a .t2) ≡ h
+    → free (a .t2) (cellsOf (a .cells .now)) r ≡ not h)
+kept-or-free c h e =
+    let a = c .before .before .before .before .before .before .before .before .before .before .before .args in
+    free-is (a .t2) (cellsOf (a .cells .now)) (c .before .before .before .before .before .before .cell-at .result)
+    (sym (c .before .before .before .before .before .«empty» .ensures) ∙ c .before .before .before .before .if1 .left)
+    (sym (c .before .before .before .committed .ensures) ∙ not-false _ (c .before .before .if2 .left))
+    (sym (c .before .outdated .ensures) ∙ not-false _ (c .if3 .left))
+    e
+
+count-requires : tie.Need-count-requires Inv-places μ-places Inv-cells μ-cells
+count-requires c κs = search needs
+
+cells-holds : tie.Need-cells-holds Inv-places μ-places Inv-cells μ-cells
+unfolding reusable
+cells-holds c = (search needs, refl)
+
+cell-at-requires : tie.Need-cell-at-requires Inv-places μ-places Inv-cells μ-cells
+cell-at-requires c κs = search needs
+
+add-i : tie.Need-add-i Inv-places μ-places Inv-cells μ-cells
+add-i c = search needs
+
+empty-requires : tie.Need-empty-requires Inv-places μ-places Inv-cells μ-cells
+empty-requires c κs = search needs
+
+returns : tie.Need-returns Inv-places μ-places Inv-cells μ-cells
+returns c =
+    let a = c .before .before .before .before .before .before .before .args in
+    here (c .before .before)
+    (free-is (a .t2) (cellsOf (a .cells .now)) (c .before .before .cell-at .result) (sym (c .before .«empty» .ensures) ∙ c .if1 .taken) refl refl refl)
+
+committed-requires : tie.Need-committed-requires Inv-places μ-places Inv-cells μ-cells
+committed-requires c κs = search needs
+
+cells-less : tie.Need-cells-less Inv-places μ-places Inv-cells μ-cells
+cells-less c = search needs
+
+cells-again : tie.Need-cells-again Inv-places μ-places Inv-cells μ-cells
+cells-again c =
+    let a = c .before .before .before .before .before .before .before .before .before .args in (
+      search needs,
+      next (c .before .before .before .before)
+          (free-is (a .t2) (cellsOf (a .cells .now)) (c .before .before .before .before .cell-at .result)
+          (sym (c .before .before .before .«empty» .ensures) ∙ c .before .before .if1 .left)
+          (sym (c .before .committed .ensures) ∙ not-true _ (c .if2 .taken)) refl refl),
+    )
+
+outdated-requires : tie.Need-outdated-requires Inv-places μ-places Inv-cells μ-cells
+outdated-requires c κs = search needs
+
+cells-less-2 : tie.Need-cells-less-2 Inv-places μ-places Inv-cells μ-cells
+cells-less-2 c = search needs
+
+cells-again-2 : tie.Need-cells-again-2 Inv-places μ-places Inv-cells μ-cells
+cells-again-2 c =
+    let a = c .before .before .before .before .before .before .before .before .before .before .before .args in (
+      search needs,
+      next (c .before .before .before .before .before .before)
+          (free-is (a .t2) (cellsOf (a .cells .now)) (c .before .before .before .before .before .before .cell-at .result)
+          (sym (c .before .before .before .before .before .«empty» .ensures) ∙ c .before .before .before .before .if1 .left)
+          (sym (c .before .before .before .committed .ensures) ∙ not-false _ (c .before .before .if2 .left))
+          (sym (c .before .outdated .ensures) ∙ not-true _ (c .if3 .taken)) refl),
+    )
+
+places-holds : tie.Need-places-holds Inv-places μ-places Inv-cells μ-cells
+places-holds c = (search needs, refl)
+
+mul-p : tie.Need-mul-p Inv-places μ-places Inv-cells μ-cells
+mul-p c = search needs
+
+array-copy-out-p : tie.Need-array-copy-out-p Inv-places μ-places Inv-cells μ-cells
+array-copy-out-p c = search needs
+
+add-j : tie.Need-add-j Inv-places μ-places Inv-cells μ-cells
+add-j c = search needs
+
+is-open-requires : tie.Need-is-open-requires Inv-places μ-places Inv-cells μ-cells
+is-open-requires c κs = search needs
+
+places-less : tie.Need-places-less Inv-places μ-places Inv-cells μ-cells
+places-less c = search needs
+
+places-again : tie.Need-places-again Inv-places μ-places Inv-cells μ-cells
+places-again c =
+    let a = c .before .before .before .before .before .before .before .before .before .before .before .before .before .before .before .before .args in
+    let m = c .before .before .before .before .places in
+    let h : length (a .t2) ≡ allPlaces = search needs in (
+      search needs,
+      m .inv .1
+          ∙ place-next (keepsAt (cellsOf (a .cells .now)) (c .before .before .before .before .before .before .before .before .before .before .before .cell-at .result)) (a .t2) (m .j) (omega arith)
+          (and-is (sym (c .before .is-open .ensures) ∙ not-true _ (c .if4 .taken)) refl),
+    )
+
+kept-requires : tie.Need-kept-requires Inv-places μ-places Inv-cells μ-cells
+kept-requires c κs = search needs
+
+cells-less-3 : tie.Need-cells-less-3 Inv-places μ-places Inv-cells μ-cells
+cells-less-3 c = search needs
+
+cells-again-3 : tie.Need-cells-again-3 Inv-places μ-places Inv-cells μ-cells
+cells-again-3 c =
+    let a = c .before .before .before .before .before .before .before .before .before .before .before .before .before .before .before .before .before .before .args in
+    let m = c .before .before .before .before .before .before .places in
+    let h : length (a .t2) ≡ allPlaces = search needs in (
+      search needs,
+      next (c .before .before .before .before .before .before .before .before .before .before .before .before .before)
+          (kept-or-free (c .before .before .before .before .before .before .before) true
+          (m .inv .1
+          ∙ place-here (keepsAt (cellsOf (a .cells .now)) (c .before .before .before .before .before .before .before .before .before .before .before .before .before .cell-at .result)) (a .t2) (m .j) (omega arith)
+          (and-is (sym (c .before .before .before .is-open .ensures) ∙ not-false _ (c .before .before .if4 .left))
+          (sym (c .before .kept .ensures) ∙ c .if5 .taken)))),
+    )
+
+places-less-2 : tie.Need-places-less-2 Inv-places μ-places Inv-cells μ-cells
+places-less-2 c = search needs
+
+places-again-2 : tie.Need-places-again-2 Inv-places μ-places Inv-cells μ-cells
+places-again-2 c =
+    let a = c .before .before .before .before .before .before .before .before .before .before .before .before .before .before .before .before .before .before .args in
+    let m = c .before .before .before .before .before .before .places in
+    let h : length (a .t2) ≡ allPlaces = search needs in (
+      search needs,
+      m .inv .1
+          ∙ place-next (keepsAt (cellsOf (a .cells .now)) (c .before .before .before .before .before .before .before .before .before .before .before .before .before .cell-at .result)) (a .t2) (m .j) (omega arith)
+          (and-is (sym (c .before .before .before .is-open .ensures) ∙ not-false _ (c .before .before .if4 .left))
+          (sym (c .before .kept .ensures) ∙ c .if5 .left)),
+    )
+
+returns-2 : tie.Need-returns-2 Inv-places μ-places Inv-cells μ-cells
+returns-2 c =
+    let a = c .before .before .before .before .before .before .before .before .before .before .before .before .before .args in
+    let m = c .before .places in
+    let h : length (a .t2) ≡ allPlaces = search needs in
+    here (c .before .before .before .before .before .before .before .before)
+    (kept-or-free (c .before .before) false
+    (m .inv .1 ∙ place-end (keepsAt (cellsOf (a .cells .now)) (c .before .before .before .before .before .before .before .before .cell-at .result)) (a .t2) (m .j) (omega arith)))
+
+returns-3 : tie.Need-returns-3 Inv-places μ-places Inv-cells μ-cells
+returns-3 c =
+    let a = c .before .before .before .before .args in
+    let l = c .before .cells in
+    sym (l .inv .1 ∙ lowest-end (a .cells .now) (l .i) (search needs) (free (a .t2) (cellsOf (a .cells .now))))
+
+pub reusable-spec : {M : Type 1} → statement M
+reusable-spec =
+    tie.close
+    (tie.spec
+    Inv-places
+    μ-places
+    Inv-cells
+    μ-cells
+    count-requires
+    cells-holds
+    cell-at-requires
+    add-i
+    empty-requires
+    returns
+    committed-requires
+    cells-less
+    cells-again
+    outdated-requires
+    cells-less-2
+    cells-again-2
+    places-holds
+    mul-p
+    array-copy-out-p
+    add-j
+    is-open-requires
+    places-less
+    places-again
+    kept-requires
+    cells-less-3
+    cells-again-3
+    places-less-2
+    places-again-2
+    returns-2
+    returns-3)
