@@ -4,4 +4,5 @@ pub mod Words
 pub mod Scan
 pub mod Skip
 pub mod Looks
+pub mod Table
 pub mod Meaning

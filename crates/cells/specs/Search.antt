@@ -1,17 +1,17 @@
 -- What the quick scans are made of. No promise speaks of these: each scan is proved equal to its rule in Rules.
 -- Assumes nothing.
 use mathlib.Core.Path.{_≡_}
-use mathlib.Core.Bool.{Bool, true, false, _&&_, _||_}
+use mathlib.Core.Bool.{Bool, true, false, cond, _&&_, _||_}
 use mathlib.Core.List.{List, [], _∷_}
 use Prim.Native.Nat.{ℕ, _+_, _≤_, _<_}
 use lib.Dec.{eqb, ltb}
-use lib.ListN.{length, getD}
+use lib.ListN.{length, getD, set, replicate}
 use Rattle.cells.specs.declared.Cell.{Cell}
 use Rattle.cells.specs.declared.Found.{Found}
 use Rattle.cells.specs.declared.Found.the-variants.{At, Nothing}
 use Rattle.cells.specs.declared.Looked.{Looked}
 use Rattle.cells.specs.Cells.{noCell, ofKey, own, foreign, seenBy}
-use Rattle.cells.specs.Rules.{pickFound, pickCell, clashes}
+use Rattle.cells.specs.Rules.{pickFound, pickCell, clashes, hasCell, newer}
 
 -- a cell's commit number, or its first word
 abbrev pub partOf : Bool → Cell → ℕ
@@ -66,3 +66,23 @@ unfoldable pub lookFrom : ℕ → ℕ → ℕ → ℕ → Looked → List Cell �
 lookFrom key number view i l [] = l
 lookFrom key number view i l (c ∷ cs) =
     lookFrom key number view (i + 1) (pickLook (ofKey key c) (lookTurn number view i c l) l) cs
+
+-- how many first words have a place in the table of newest numbers: 0 and those of 256 keys
+abbrev pub allTops : ℕ
+allTops = 257
+
+-- the table after one more cell: its first word's number is raised to the cell's commit number if that is higher
+abbrev pub raised : List ℕ → Cell → List ℕ
+raised t c = cond (ltb (getD t (c .word) 0) (c .commit)) (set t (c .word) (c .commit)) t
+
+unfoldable pub topsFrom : List ℕ → List Cell → List ℕ
+topsFrom t [] = t
+topsFrom t (c ∷ cs) = topsFrom (raised t c) cs
+
+-- for each first word the greatest commit number of its cells
+unfoldable pub topsOf : List Cell → List ℕ
+topsOf cs = topsFrom (replicate allTops 0) cs
+
+-- the cell's key has a committed cell with a number above the cell's, by the table where the first word has a place in it
+unfoldable pub outdatedBy : List ℕ → List Cell → Cell → Bool
+outdatedBy tops cs c = cond (ltb (c .word) allTops) (ltb (c .commit) (getD tops (c .word) 0)) (hasCell (newer c) cs)

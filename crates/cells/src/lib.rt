@@ -7,7 +7,7 @@ ghost use Rattle.cells.specs.Cells.{noCell, cellsOf, withCells, countOf,
 ghost use Rattle.cells.specs.Cells.{empty, ofKey, committed, own, foreign, seenBy};
 ghost use Rattle.cells.specs.Rules.{ownAt, newestSeen, conflict, foreignWith, hasCell, keeps, lookOf};
 ghost use Rattle.cells.specs.Rules.{clashes, valued, stamped, wiped, newer, between};
-ghost use Rattle.cells.specs.Search.{partOf, partIs, fourHave, NextAt, lowestOf, newestOf, noLook, lookTurn};
+ghost use Rattle.cells.specs.Search.{partOf, partIs, fourHave, NextAt, lowestOf, newestOf, noLook, lookTurn, topsOf, outdatedBy};
 
 pub struct Cell {
     pub word: u32,
@@ -411,4 +411,38 @@ pub fn look(cells: &[u32], key: u32, number: u32, view: u32) -> Looked
         i = next(cells, i + 1, false, key + 1);
     }
     seen
+}
+
+// How many first words have a place in the table of newest numbers: 0 and those of 256 keys
+pub const TOPS: usize = 257;
+
+// For each first word below TOPS the greatest commit number of its cells: one pass for all keys
+pub fn tops(cells: &[u32]) -> [u32; TOPS]
+    ensures { λ r. ⌜ r ≡ topsOf (cellsOf (now (cells .entry))) ⌝ }
+{
+    let n = count(cells);
+    let mut t = [0u32; TOPS];
+    let mut i = 0;
+    while i < n {
+        let c = cell_at(cells, i);
+        i += 1;
+        let w = c.word as usize;
+        if w < TOPS {
+            if t[w] < c.commit {
+                t[w] = c.commit;
+            }
+        }
+    }
+    t
+}
+
+// Whether the cell's key has a committed cell with a number above the cell's, by the table where the first word has a place in it
+pub fn outdated_by(tops: &[u32; TOPS], cells: &[u32], c: Cell) -> bool
+    ensures { λ r. ⌜ r ≡ outdatedBy (now (tops .entry)) (cellsOf (now (cells .entry))) c ⌝ }
+{
+    let w = c.word as usize;
+    if w < TOPS {
+        return c.commit < tops[w];
+    }
+    outdated(cells, c)
 }
