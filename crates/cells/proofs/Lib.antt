@@ -1,6 +1,7 @@
 -- Laws for the proofs of this crate and of those above it.
 pub mod Laws
 pub mod Words
+pub mod Writes
 pub mod Scan
 pub mod Skip
 pub mod Looks

@@ -15,15 +15,8 @@ use Rattle.cells.specs.declared.Found.{Found}
 use Rattle.cells.specs.declared.Found.the-variants.{At, Nothing}
 use Rattle.cells.specs.Cells.{noCell, cellsOf, withCells}
 use Rattle.cells.specs.Rules.{lowestFrom, hasCell, newest, pickCell}
-use Rattle.cells.proofs.Laws.{drop-next, mapTo, mapTo-at, mapTo-next, mapTo-keep, mapTo-all, mapTo-none}
-use Rattle.cells.proofs.Words.{with-cells, cells-with, with-with, length-cells}
-
--- what a choice by a test comes to
-pub pick-true : {t : Bool} (a b : Cell) → t ≡ true → pickCell t a b ≡ a
-pick-true a b e = ap (λ (u : Bool). pickCell u a b) e
-
-pub pick-false : {t : Bool} (a b : Cell) → t ≡ false → pickCell t a b ≡ b
-pick-false a b e = ap (λ (u : Bool). pickCell u a b) e
+use Rattle.cells.proofs.Laws.{drop-next, mapTo, mapTo-at, mapTo-next, mapTo-keep, mapTo-all, mapTo-none, length-mapTo}
+use Rattle.cells.proofs.Words.{with-cells, cells-with, with-with, length-cells, length-same}
 
 -- a turn of a scan
 module _ (ws : List ℕ) (i : ℕ) (h : i < length ws / 4) where
@@ -80,6 +73,9 @@ to-none f ws = sym (ap (withCells ws) (mapTo-none f (cellsOf ws)) ∙ with-cells
 pub to-at : (f : Cell → Cell) (ws : List ℕ) (i : ℕ)
     → getD (cellsOf (withCells ws (mapTo i f (cellsOf ws)))) i noCell ≡ getD (cellsOf ws) i noCell
 to-at f ws i = rw cells-with (mapTo-at i f (cellsOf ws) noCell)
+
+pub to-length : (f : Cell → Cell) (ws : List ℕ) (i : ℕ) → length (withCells ws (mapTo i f (cellsOf ws))) ≡ length ws
+to-length f ws i = length-same ws (mapTo i f (cellsOf ws)) (length-mapTo i f (cellsOf ws))
 
 -- the end of a scan
 module _ (ws : List ℕ) (i : ℕ) (h : length ws / 4 ≤ i) where

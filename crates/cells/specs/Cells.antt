@@ -10,7 +10,8 @@ use Rattle.cells.specs.declared.Cell.{Cell}
 abbrev pub noCell : Cell
 noCell = record { word = 0; value = 0; number = 0; commit = 0 }
 
--- a lent run of 32-bit words, four to a cell: key plus 1 (0 marks an empty cell), value, transaction number, commit number (0 while uncommitted)
+-- a lent run of 32-bit words, four to a cell: key plus 1 (0 marks an empty cell), value, transaction number,
+-- commit number (0 while uncommitted)
 unfoldable pub cellsOf : List ℕ → List Cell
 cellsOf [] = []
 cellsOf (a ∷ []) = []

@@ -15,6 +15,7 @@ abbrev pub pickFound : Bool → Found → Found → Found
 pickFound true a b = a
 pickFound false a b = b
 
+-- the same of two cells
 abbrev pub pickCell : Bool → Cell → Cell → Cell
 pickCell true a b = a
 pickCell false a b = b
@@ -44,7 +45,7 @@ ownAt key number cs = lowestFrom 0 (mine key number) cs
 
 -- a foreign cell of the key that has the given number
 abbrev pub foreignOf : ℕ → ℕ → ℕ → Cell → Bool
-foreignOf key number other c = ofKey key c && foreign number c && eqb (c .number) other
+foreignOf key number other c = ofKey key c && (foreign number c && eqb (c .number) other)
 
 -- a foreign cell of the key has the given number
 unfoldable pub foreignWith : ℕ → ℕ → ℕ → List Cell → Bool
@@ -62,6 +63,7 @@ newestSeen key view cs = newest (visible key view) noCell cs
 abbrev pub clashes : ℕ → ℕ → Cell → Bool
 clashes number view c = foreign number c || (committed c && ltb view (c .commit))
 
+-- a cell of the key that is foreign, or committed with a commit number above the view
 abbrev pub blocks : ℕ → ℕ → ℕ → Cell → Bool
 blocks key number view c = ofKey key c && clashes number view c
 

@@ -6,7 +6,7 @@ ghost use lib.ListN.{length, getD, set};
 ghost use Rattle.cells.specs.Cells.{noCell, cellsOf, withCells, countOf, wholeCells};
 ghost use Rattle.cells.specs.Cells.{empty, ofKey, committed, own, foreign, seenBy};
 ghost use Rattle.cells.specs.Rules.{ownAt, newestSeen, conflict, foreignWith, hasCell, keeps, lookOf};
-ghost use Rattle.cells.specs.Rules.{clashes, valued, stamped, wiped, newer, between};
+ghost use Rattle.cells.specs.Rules.{mine, visible, blocks, foreignOf, clashes, valued, stamped, wiped, newer, between};
 ghost use Rattle.cells.specs.Search.{partOf, partIs, fourHave, NextAt, lowestOf, newestOf, noLook, lookTurn, topsOf, outdatedBy};
 
 pub struct Cell {
@@ -103,7 +103,35 @@ impl Cell {
     pub fn between(self, d: Cell, view: u32) -> bool
         ensures { λ r. ⌜ r ≡ between self view d ⌝ }
     {
-        self.newer(d) & (d.commit <= view)
+        self.newer(d) && d.commit <= view
+    }
+
+    // An own cell of the key. Most cells fail the first test, here and in the next three, and are asked no more
+    fn mine(self, key: u32, number: u32) -> bool
+        ensures { λ r. ⌜ r ≡ mine key number self ⌝ }
+    {
+        self.of_key(key) && self.own(number)
+    }
+
+    // A committed cell of the key with a commit number that is at most the view
+    fn visible(self, key: u32, view: u32) -> bool
+        ensures { λ r. ⌜ r ≡ visible key view self ⌝ }
+    {
+        self.of_key(key) && self.seen_by(view)
+    }
+
+    // A cell of the key that clashes
+    fn blocks(self, key: u32, number: u32, view: u32) -> bool
+        ensures { λ r. ⌜ r ≡ blocks key number view self ⌝ }
+    {
+        self.of_key(key) && self.clashes(number, view)
+    }
+
+    // A foreign cell of the key that has the other number
+    fn foreign_of(self, key: u32, number: u32, other: u32) -> bool
+        ensures { λ r. ⌜ r ≡ foreignOf key number other self ⌝ }
+    {
+        self.of_key(key) && self.foreign(number) & (self.number == other)
     }
 
     // The cell takes the value
@@ -189,7 +217,7 @@ pub fn own_at(cells: &[u32], key: u32, number: u32) -> Found
     let n = count(cells);
     for i in 0..n {
         let c = cell_at(cells, i);
-        if c.of_key(key) & c.own(number) {
+        if c.mine(key, number) {
             return Found::At(i);
         }
     }
@@ -206,7 +234,7 @@ pub fn newest_seen(cells: &[u32], key: u32, view: u32) -> Cell
     while i < n {
         let c = cell_at(cells, i);
         i += 1;
-        if c.of_key(key) & c.seen_by(view) & (best.commit < c.commit) {
+        if c.visible(key, view) & (best.commit < c.commit) {
             best = c;
         }
     }
@@ -220,7 +248,7 @@ pub fn conflicts(cells: &[u32], key: u32, number: u32, view: u32) -> bool
     let n = count(cells);
     for i in 0..n {
         let c = cell_at(cells, i);
-        if c.of_key(key) & c.clashes(number, view) {
+        if c.blocks(key, number, view) {
             return true;
         }
     }
@@ -234,7 +262,7 @@ pub fn foreign_with(cells: &[u32], key: u32, number: u32, other: u32) -> bool
     let n = count(cells);
     for i in 0..n {
         let c = cell_at(cells, i);
-        if c.of_key(key) & c.foreign(number) & (c.number == other) {
+        if c.foreign_of(key, number, other) {
             return true;
         }
     }

@@ -26,15 +26,12 @@ loop-holds c = (search needs, refl)
 cell-at-requires : tie.Need-cell-at-requires Inv-loop μ-loop
 cell-at-requires c κs = search needs
 
-of-key-requires : tie.Need-of-key-requires Inv-loop μ-loop
-of-key-requires c κs = search needs
-
-clashes-requires : tie.Need-clashes-requires Inv-loop μ-loop
-clashes-requires c κs = search needs
+blocks-requires : tie.Need-blocks-requires Inv-loop μ-loop
+blocks-requires c κs = search needs
 
 returns : tie.Need-returns Inv-loop μ-loop
 returns c =
-    let l = c .before .before .before .before .before in
+    let l = c .before .before .before .before in
     let s = l .before .before .before .args in
     let e : blocks (s .key) (s .number) (s .view) (getD (cellsOf (s .cells .now)) (l .loop .i) noCell) ≡ true = cc in
     sym (l .loop .inv .1 ∙ has-here (s .cells .now) (l .loop .i) (search needs) _ e)
@@ -47,7 +44,7 @@ loop-less c = search needs
 
 loop-again : tie.Need-loop-again Inv-loop μ-loop
 loop-again c =
-    let l = c .before .before .before .before .before in
+    let l = c .before .before .before .before in
     let s = l .before .before .before .args in
     let e : blocks (s .key) (s .number) (s .view) (getD (cellsOf (s .cells .now)) (l .loop .i) noCell) ≡ false = cc in
     (search needs, l .loop .inv .1 ∙ has-next (s .cells .now) (l .loop .i) (search needs) _ e)
@@ -64,8 +61,7 @@ conflicts-spec =
     count-requires
     loop-holds
     cell-at-requires
-    of-key-requires
-    clashes-requires
+    blocks-requires
     returns
     add-i
     loop-less

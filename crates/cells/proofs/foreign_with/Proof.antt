@@ -26,15 +26,12 @@ loop-holds c = (search needs, refl)
 cell-at-requires : tie.Need-cell-at-requires Inv-loop μ-loop
 cell-at-requires c κs = search needs
 
-of-key-requires : tie.Need-of-key-requires Inv-loop μ-loop
-of-key-requires c κs = search needs
-
-foreign-requires : tie.Need-foreign-requires Inv-loop μ-loop
-foreign-requires c κs = search needs
+foreign-of-requires : tie.Need-foreign-of-requires Inv-loop μ-loop
+foreign-of-requires c κs = search needs
 
 returns : tie.Need-returns Inv-loop μ-loop
 returns c =
-    let l = c .before .before .before .before .before .before in
+    let l = c .before .before .before .before in
     let s = l .before .before .before .args in
     let e : foreignOf (s .key) (s .number) (s .other) (getD (cellsOf (s .cells .now)) (l .loop .i) noCell) ≡ true = cc in
     sym (l .loop .inv .1 ∙ has-here (s .cells .now) (l .loop .i) (search needs) _ e)
@@ -47,7 +44,7 @@ loop-less c = search needs
 
 loop-again : tie.Need-loop-again Inv-loop μ-loop
 loop-again c =
-    let l = c .before .before .before .before .before .before in
+    let l = c .before .before .before .before in
     let s = l .before .before .before .args in
     let e : foreignOf (s .key) (s .number) (s .other) (getD (cellsOf (s .cells .now)) (l .loop .i) noCell) ≡ false = cc in
     (search needs, l .loop .inv .1 ∙ has-next (s .cells .now) (l .loop .i) (search needs) _ e)
@@ -64,8 +61,7 @@ foreign-with-spec =
     count-requires
     loop-holds
     cell-at-requires
-    of-key-requires
-    foreign-requires
+    foreign-of-requires
     returns
     add-i
     loop-less

@@ -33,18 +33,15 @@ cell-at-requires c κs = search needs
 add-i : tie.Need-add-i Inv-loop μ-loop
 add-i c = search needs
 
-of-key-requires : tie.Need-of-key-requires Inv-loop μ-loop
-of-key-requires c κs = search needs
-
-seen-by-requires : tie.Need-seen-by-requires Inv-loop μ-loop
-seen-by-requires c κs = search needs
+visible-requires : tie.Need-visible-requires Inv-loop μ-loop
+visible-requires c κs = search needs
 
 loop-less : tie.Need-loop-less Inv-loop μ-loop
 loop-less c = search needs
 
 loop-again : tie.Need-loop-again Inv-loop μ-loop
 loop-again c =
-    let l = c .before .before .before .before .before .before .before in
+    let l = c .before .before .before .before .before .before in
     let s = l .before .before .before .before .args in
     let p = visible (s .key) (s .view) in
     let x = getD (cellsOf (s .cells .now)) (l .loop .i) noCell in
@@ -52,7 +49,7 @@ loop-again c =
       search needs,
       l .loop .inv .1
           ∙ newest-turn (s .cells .now) (l .loop .i) (search needs) p (l .loop .best) true e
-          ∙ ap (λ (d : Cell). newest p d (drop (l .loop .i + 1) (cellsOf (s .cells .now)))) (sym (c .before .before .before .before .before .cell-at .ensures)),
+          ∙ ap (λ (d : Cell). newest p d (drop (l .loop .i + 1) (cellsOf (s .cells .now)))) (sym (c .before .before .before .before .cell-at .ensures)),
     )
 
 loop-less-2 : tie.Need-loop-less-2 Inv-loop μ-loop
@@ -60,7 +57,7 @@ loop-less-2 c = search needs
 
 loop-again-2 : tie.Need-loop-again-2 Inv-loop μ-loop
 loop-again-2 c =
-    let l = c .before .before .before .before .before .before .before in
+    let l = c .before .before .before .before .before .before in
     let s = l .before .before .before .before .args in
     let p = visible (s .key) (s .view) in
     let x = getD (cellsOf (s .cells .now)) (l .loop .i) noCell in
@@ -82,8 +79,7 @@ newest-seen-spec =
     loop-holds
     cell-at-requires
     add-i
-    of-key-requires
-    seen-by-requires
+    visible-requires
     loop-less
     loop-again
     loop-less-2

@@ -1,6 +1,6 @@
 use borrow.Author.Needs.{needs}
 use mathlib.Core.Path.{_≡_, refl, sym, _∙_}
-use mathlib.Core.Bool.{Bool, true, false, _&&_}
+use mathlib.Core.Bool.{true, false}
 use Prim.Native.Nat.{_-_, _≤_}
 use lib.ListN.{getD, drop}
 use Rattle.cells.specs.Cells.{cellsOf, noCell}
@@ -26,15 +26,12 @@ loop-holds c = (search needs, refl)
 cell-at-requires : tie.Need-cell-at-requires Inv-loop μ-loop
 cell-at-requires c κs = search needs
 
-of-key-requires : tie.Need-of-key-requires Inv-loop μ-loop
-of-key-requires c κs = search needs
-
-own-requires : tie.Need-own-requires Inv-loop μ-loop
-own-requires c κs = search needs
+mine-requires : tie.Need-mine-requires Inv-loop μ-loop
+mine-requires c κs = search needs
 
 returns : tie.Need-returns Inv-loop μ-loop
 returns c =
-    let l = c .before .before .before .before .before in
+    let l = c .before .before .before .before in
     let s = l .before .before .before .args in
     let e : mine (s .key) (s .number) (getD (cellsOf (s .cells .now)) (l .loop .i) noCell) ≡ true = cc in
     sym (l .loop .inv .1 ∙ lowest-here (s .cells .now) (l .loop .i) (search needs) _ e)
@@ -47,7 +44,7 @@ loop-less c = search needs
 
 loop-again : tie.Need-loop-again Inv-loop μ-loop
 loop-again c =
-    let l = c .before .before .before .before .before in
+    let l = c .before .before .before .before in
     let s = l .before .before .before .args in
     let e : mine (s .key) (s .number) (getD (cellsOf (s .cells .now)) (l .loop .i) noCell) ≡ false = cc in
     (search needs, l .loop .inv .1 ∙ lowest-next (s .cells .now) (l .loop .i) (search needs) _ e)
@@ -64,8 +61,7 @@ own-at-spec =
     count-requires
     loop-holds
     cell-at-requires
-    of-key-requires
-    own-requires
+    mine-requires
     returns
     add-i
     loop-less

@@ -9,8 +9,9 @@ use Rattle.cells.specs.Cells.{cellsOf, withCells}
 use Rattle.cells.specs.Rules.{stamped}
 use Rattle.cells.specs.Search.{partIs}
 use Rattle.cells.proofs.Laws.{mapTo}
-use Rattle.cells.proofs.Scan.{to-none, to-at, to-next, to-end, pick-false}
+use Rattle.cells.proofs.Scan.{to-none, to-at, to-next, to-end}
 use Rattle.cells.proofs.Skip.{to-over, committed-not-own}
+use Rattle.cells.proofs.Writes.{stamped-other}
 use Rattle.cells.proofs.stamp.Statement.{statement}
 use Rattle.cells.proofs.stamp.Tie as tie
 use Rattle.cells.proofs.stamp.Reads as reads
@@ -23,7 +24,7 @@ use Rattle.cells.proofs.put_cell.Reads as put-cell-reads
 
 -- a committed cell stays as it is
 stays : (number commit : ℕ) (c : Cell) → partIs true 0 c ≡ false → stamped number commit c ≡ c
-stays number commit c e = pick-false _ c (committed-not-own number c e)
+stays number commit c e = stamped-other number c commit (committed-not-own number c e)
 
 abbrev Inv-loop : tie.InvT-loop
 Inv-loop cells₀ number commit n i₀ cells i =

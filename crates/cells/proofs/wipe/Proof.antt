@@ -9,8 +9,9 @@ use Rattle.cells.specs.Cells.{cellsOf, withCells}
 use Rattle.cells.specs.Rules.{wiped}
 use Rattle.cells.specs.Search.{partIs}
 use Rattle.cells.proofs.Laws.{mapTo}
-use Rattle.cells.proofs.Scan.{to-none, to-at, to-next, to-end, pick-false}
+use Rattle.cells.proofs.Scan.{to-none, to-at, to-next, to-end}
 use Rattle.cells.proofs.Skip.{to-over, committed-not-own}
+use Rattle.cells.proofs.Writes.{wiped-other}
 use Rattle.cells.proofs.wipe.Statement.{statement}
 use Rattle.cells.proofs.wipe.Tie as tie
 use Rattle.cells.proofs.wipe.Reads as reads
@@ -23,7 +24,7 @@ use Rattle.cells.proofs.put_cell.Reads as put-cell-reads
 
 -- a committed cell stays as it is
 stays : (number : ℕ) (c : Cell) → partIs true 0 c ≡ false → wiped number c ≡ c
-stays number c e = pick-false _ c (committed-not-own number c e)
+stays number c e = wiped-other number c (committed-not-own number c e)
 
 abbrev Inv-loop : tie.InvT-loop
 Inv-loop cells₀ number n i₀ cells i =

@@ -3,7 +3,7 @@ use mathlib.Core.Path.{_≡_, sym}
 use mathlib.Core.Bool.{true, false, _&&_}
 use lib.Dec.{ltb}
 use Rattle.cells.specs.Cells.{seenBy}
-use Rattle.cells.proofs.Scan.{pick-true, pick-false}
+use Rattle.cells.proofs.Writes.{pick-true, pick-false}
 use Rattle.cells.proofs.Cell.newest_of.Statement.{statement}
 use Rattle.cells.proofs.Cell.newest_of.Tie as tie
 use Rattle.cells.proofs.Cell.newest_of.Reads as reads
