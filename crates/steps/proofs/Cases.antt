@@ -1,5 +1,5 @@
 -- One case split for all that is proved of a step: a check refuses, or every check is passed and the step is done.
---     on-step               what holds of every refusal by a check, and of what the step does once all are passed, holds of the step
+--     on-step               what holds of each refusal by a check, and of what is done once all are passed, holds of the step
 --     on-read, on-update    the same of what a read and an update do
 --     open-of               a state that is not idle, spoiled or prepared
 -- Assumes nothing.
@@ -12,15 +12,18 @@ use lib.ListN.{length, getD, set}
 use Rattle.records.specs.declared.Call.{Call}
 use Rattle.records.specs.declared.Answer.{Answer}
 use Rattle.records.specs.Answers.{numberOf, valueOf}
+use Rattle.cells.specs.declared.Cell.{Cell}
 use Rattle.cells.specs.declared.Found.{Found}
 use Rattle.cells.specs.Cells.{noCell, cellsOf, withCells}
 use Rattle.cells.specs.Rules.{ownAt, newestSeen, conflict, valued}
 use Rattle.steps.specs.declared.State.{State}
 use Rattle.steps.specs.declared.Board.{Board}
 use Rattle.steps.specs.Record.{isIdle, isSpoiled, isPrepared, placeAt}
-use Rattle.steps.specs.Check.{givenBoard, givenPlace, givenBusy, givenIdle, givenWorn, givenSpoiled, givenHeld, givenKey, placeCheck, checkOf}
+use Rattle.steps.specs.Check.{givenBoard, givenPlace, givenBusy, givenIdle, givenWorn, givenSpoiled, givenHeld, givenKey}
+use Rattle.steps.specs.Check.{placeCheck, checkOf}
 use Rattle.steps.specs.Spent.{reusable, heldBack}
-use Rattle.steps.specs.Step.{Outcome, answered, withPlace, inState, numberAt, viewAt, onFound, readAs, draft, updatedAs, done, unlessRefused, step}
+use Rattle.steps.specs.Step.{Outcome, answered, withPlace, inState, numberAt, viewAt, onFound, draft}
+use Rattle.steps.specs.Step.{readAs, updatedAs, done, unlessRefused, step}
 use Rattle.steps.specs.Table.{stateAt}
 use Rattle.steps.proofs.Tests.{by-test}
 
@@ -39,30 +42,32 @@ pub record Cleared (b : Board) (words : ℕ) (call : Call) : Type 0 where
 abbrev pub IsCheck : Answer → Type 0
 IsCheck a = (1 ≤ numberOf a) × (numberOf a ≤ 8) × (valueOf a ≡ 0)
 
-module _ {ℓ} (P : Outcome → Type ℓ) (b : Board) (ws : List ℕ) where
-  abbrev Checked : Call → Answer → Type ℓ
-  Checked call a = P (unlessRefused a b ws (done b ws call))
+module _ {ℓ} (P : Outcome → Type ℓ) (b : Board) (ws : List ℕ) (call : Call) where
+  abbrev Checked : Answer → Type ℓ
+  Checked a = P (unlessRefused a b ws (done b ws call))
 
-  pub on-step : (call : Call) → ((a : Answer) → IsCheck a → P (answered a b ws)) → (Cleared b (length ws) call → P (done b ws call))
-      → P (step b ws call)
+  abbrev s : State
+  s = stateAt b call
+
+  pub on-step : ((a : Answer) → IsCheck a → P (answered a b ws)) → (Cleared b (length ws) call → P (done b ws call)) → P (step b ws call)
   unfolding step checkOf placeCheck
-  on-step call no′ go =
-      by-test (Checked call) (givenBoard b (length ws)) (λ _. no′ Answer.Board (omega arith)) λ board.
-      by-test (Checked call) (givenPlace call) (λ _. no′ Answer.Place (omega arith)) λ place.
-      by-test (Checked call) (givenBusy (stateAt b call) call) (λ _. no′ Answer.Busy (omega arith)) λ busy.
-      by-test (Checked call) (givenIdle (stateAt b call) call) (λ _. no′ Answer.Idle (omega arith)) λ idle.
-      by-test (Checked call) (givenWorn (b .starts) call) (λ _. no′ Answer.Worn (omega arith)) λ worn.
-      by-test (Checked call) (givenSpoiled (stateAt b call) call) (λ _. no′ Answer.Spoiled (omega arith)) λ spoiled.
-      by-test (Checked call) (givenHeld (stateAt b call) call) (λ _. no′ Answer.Held (omega arith)) λ held.
-      by-test (Checked call) (givenKey call) (λ _. no′ Answer.Key (omega arith)) λ key.
-      go (record { board = board; place = place; busy = busy; idle = idle; worn = worn; spoiled = spoiled; held = held; key = key })
+  on-step refuse go =
+      by-test Checked (givenBoard b (length ws)) (λ _. refuse Answer.Board (omega arith)) λ e₁.
+      by-test Checked (givenPlace call) (λ _. refuse Answer.Place (omega arith)) λ e₂.
+      by-test Checked (givenBusy s call) (λ _. refuse Answer.Busy (omega arith)) λ e₃.
+      by-test Checked (givenIdle s call) (λ _. refuse Answer.Idle (omega arith)) λ e₄.
+      by-test Checked (givenWorn (b .starts) call) (λ _. refuse Answer.Worn (omega arith)) λ e₅.
+      by-test Checked (givenSpoiled s call) (λ _. refuse Answer.Spoiled (omega arith)) λ e₆.
+      by-test Checked (givenHeld s call) (λ _. refuse Answer.Held (omega arith)) λ e₇.
+      by-test Checked (givenKey call) (λ _. refuse Answer.Key (omega arith)) λ e₈.
+      go (record { board = e₁; place = e₂; busy = e₃; idle = e₄; worn = e₅; spoiled = e₆; held = e₇; key = e₈ })
 
-  by-found : (f : Found) {g : ℕ → Outcome} {o : Outcome} → ((i : ℕ) → f ≡ Found.At i → P (g i)) → (f ≡ Found.Nothing → P o) → P (onFound f g o)
-  by-found (Found.At i) f g = f i refl
-  by-found Found.Nothing f g = g refl
+by-found {ℓ} : (P : Outcome → Type ℓ) (f : Found) {g : ℕ → Outcome} {o : Outcome}
+    → ((i : ℕ) → f ≡ Found.At i → P (g i)) → (f ≡ Found.Nothing → P o) → P (onFound f g o)
+by-found P (Found.At i) f g = f i refl
+by-found P Found.Nothing f g = g refl
 
--- the tests and searches of a read and an update
-module _ (b : Board) (ws : List ℕ) (p key : ℕ) where
+module _ {ℓ} (P : Outcome → Type ℓ) (b : Board) (ws : List ℕ) (p key : ℕ) where
   abbrev own : Found
   own = ownAt key (numberAt b p) (cellsOf ws)
 
@@ -75,28 +80,31 @@ module _ (b : Board) (ws : List ℕ) (p key : ℕ) where
   abbrev room : Found
   room = reusable (b .places) (cellsOf ws)
 
-module _ {ℓ} (P : Outcome → Type ℓ) (b : Board) (ws : List ℕ) (p key : ℕ) where
-  pub on-read : ((i : ℕ) → own b ws p key ≡ Found.At i → P (answered (Answer.Ok (getD (cellsOf ws) i noCell .value)) b ws))
-      → (own b ws p key ≡ Found.Nothing → back b ws p key ≡ true → P (answered Answer.Prepared b ws))
-      → (own b ws p key ≡ Found.Nothing → back b ws p key ≡ false → P (answered (Answer.Ok (newestSeen key (viewAt b p) (cellsOf ws) .value)) b ws))
+  abbrev cell : ℕ → Cell
+  cell i = getD (cellsOf ws) i noCell
+
+  -- OK, with another cell at i
+  abbrev put : ℕ → Cell → Outcome
+  put i c = answered (Answer.Ok 0) b (withCells ws (set (cellsOf ws) i c))
+
+  pub on-read : ((i : ℕ) → own ≡ Found.At i → P (answered (Answer.Ok (cell i .value)) b ws))
+      → (own ≡ Found.Nothing → back ≡ true → P (answered Answer.Prepared b ws))
+      → (own ≡ Found.Nothing → back ≡ false → P (answered (Answer.Ok (newestSeen key (viewAt b p) (cellsOf ws) .value)) b ws))
       → P (readAs b ws p key)
   unfolding readAs
-  on-read mine held seen = by-found P b ws (own b ws p key) mine λ none. by-test P (back b ws p key) (held none) (seen none)
+  on-read mine held seen = by-found P own mine λ none. by-test P back (held none) (seen none)
 
   pub on-update : (value : ℕ)
-      → ((i : ℕ) → own b ws p key ≡ Found.At i
-      → P (answered (Answer.Ok 0) b (withCells ws (set (cellsOf ws) i (valued value (getD (cellsOf ws) i noCell))))))
-      → (own b ws p key ≡ Found.Nothing → clash b ws p key ≡ true
-      → P (answered Answer.Conflict (withPlace b p (inState State.Spoiled (placeAt b p))) ws))
-      → (own b ws p key ≡ Found.Nothing → clash b ws p key ≡ false → (i : ℕ) → room b ws p key ≡ Found.At i
-      → P (answered (Answer.Ok 0) b (withCells ws (set (cellsOf ws) i (draft key value (numberAt b p))))))
-      → (own b ws p key ≡ Found.Nothing → clash b ws p key ≡ false → room b ws p key ≡ Found.Nothing → P (answered Answer.Full b ws))
+      → ((i : ℕ) → own ≡ Found.At i → P (put i (valued value (cell i))))
+      → (own ≡ Found.Nothing → clash ≡ true → P (answered Answer.Conflict (withPlace b p (inState State.Spoiled (placeAt b p))) ws))
+      → (own ≡ Found.Nothing → clash ≡ false → (i : ℕ) → room ≡ Found.At i → P (put i (draft key value (numberAt b p))))
+      → (own ≡ Found.Nothing → clash ≡ false → room ≡ Found.Nothing → P (answered Answer.Full b ws))
       → P (updatedAs b ws p key value)
   unfolding updatedAs
   on-update value mine spoil write full =
-      by-found P b ws (own b ws p key) mine λ none.
-      by-test P (clash b ws p key) (spoil none) λ calm.
-      by-found P b ws (room b ws p key) (write none calm) (full none calm)
+      by-found P own mine λ none.
+      by-test P clash (spoil none) λ calm.
+      by-found P room (write none calm) (full none calm)
 
 pub open-of : (s : State) → isIdle s ≡ false → isSpoiled s ≡ false → isPrepared s ≡ false → s ≡ State.Open
 open-of State.Idle e f g = absurd (true≢false e)

@@ -1,8 +1,8 @@
--- Each refusal has its exact condition: it is given if and only if its row of document 01's table holds and no earlier row does.
---     exact            for every number from 1, on any board, words and call; with never-above for the numbers from 12
---     ok-exact         the number is 0 if and only if no row holds
---     never-above      the number is at most 11: a step never gives 12
---     full-exact       FULL, in facts of every cell
+-- Each refusal has its exact condition, on any board, words and call.
+--     exact           a number from 1 is given if and only if its row of document 01's table holds and no earlier row does
+--     ok-exact        0 is given if and only if no row holds
+--     never-above     the number is at most 11: a step never gives 12
+--     full-exact      FULL is given if and only if the update gets that far and every cell is neither empty nor spent
 -- Assumes nothing.
 use Prim.Native.Nat.{ℕ, zero, suc, _+_, _≤_, _<_}
 use mathlib.Core.Path.{_≡_, refl, sym, ap, _∙_, subst}
@@ -23,7 +23,8 @@ use Rattle.cells.specs.Cells.{noCell, cellsOf, countOf, empty}
 use Rattle.cells.proofs.Words.{length-cells}
 use Rattle.cells.specs.Rules.{pickFound, lowestFrom, hasCell, mine, ownAt}
 use Rattle.steps.specs.declared.Board.{Board}
-use Rattle.steps.specs.Check.{givenBoard, givenPlace, givenBusy, givenIdle, givenWorn, givenSpoiled, givenHeld, givenKey, refuseIf, placeCheck, checkOf}
+use Rattle.steps.specs.Check.{givenBoard, givenPlace, givenBusy, givenIdle, givenWorn, givenSpoiled, givenHeld, givenKey}
+use Rattle.steps.specs.Check.{refuseIf, placeCheck, checkOf}
 use Rattle.steps.specs.Spent.{spent, free, reusable}
 use Rattle.steps.specs.Step.{Outcome, numberAt, done, unlessRefused, step}
 use Rattle.steps.specs.Table.{noOwn, stateAt, givenConflict, givenPrepared, givenFull, rows, given}
@@ -53,7 +54,8 @@ Told k ts r = ((r ≡ 0) × None ts) ⊎ ((n : ℕ) × (r ≡ n + k) × First ts
 told-next : (k : ℕ) (ts : List Bool) (r : ℕ) → Told (suc k) ts r → Told k (false ∷ ts) r
 told-next k ts r (inl e) = inl (e .0, elim [ zero ↦ refl | suc n ↦ e .1 n ])
 told-next k ts r (inr e) =
-    inr (suc (e .0), omega (arith, e .1), (e .2 .0, elim [ zero ↦ λ h. refl | suc m ↦ λ h. e .2 .1 m (le-of-suc-le-suc h) ]))
+    let f = e .2 in
+    inr (suc (e .0), omega (arith, e .1), (f .0, elim [ zero ↦ λ h. refl | suc m ↦ λ h. f .1 m (le-of-suc-le-suc h) ]))
 
 told : (k : ℕ) (ts : List Bool) → Told k ts (firstFrom k ts)
 unfolding firstFrom
@@ -71,14 +73,14 @@ only ts m n f g =
 told-first : (ts : List Bool) (r n : ℕ) → 1 ≤ n → Told 0 ts r → (r ≡ n) ↔ First ts n
 told-first ts r n h (inl e) = (λ q. absurd (omega (arith, e .0)), λ f. absurd (true≢false (sym (f .0) ∙ e .1 n)))
 told-first ts r n h (inr e) =
-    (λ q. subst (First ts) (omega (arith, e .1)) (e .2), λ f. let z : e .0 ≡ n = only ts (e .0) n (e .2) f in omega (arith, e .1))
+    let f = e .2 in
+    (λ q. subst (First ts) (omega (arith, e .1)) f, λ g. let z = only ts (e .0) n f g in omega (arith, e .1, z))
 
 told-none : (ts : List Bool) (r : ℕ) → test ts 0 ≡ false → Told 0 ts r → (r ≡ 0) ↔ None ts
 told-none ts r z (inl e) = (λ _. e .1, λ _. e .0)
-told-none ts r z (inr e) = (
-  λ q. let o : e .0 ≡ 0 = omega (arith, e .1) in absurd (true≢false (sym (e .2 .0) ∙ ap (test ts) o ∙ z)),
-  λ f. absurd (true≢false (sym (e .2 .0) ∙ f (e .0))),
-)
+told-none ts r z (inr e) =
+    let never : test ts (e .0) ≡ false → ⊥ = λ f. true≢false (sym (e .2 .0) ∙ f) in
+    (λ q. let o : e .0 ≡ 0 = omega (arith, e .1) in absurd (never (ap (test ts) o ∙ z)), λ f. absurd (never (f (e .0))))
 
 -- ---- a search finds a cell if and only if there is one
 abbrev isFound : Found → Bool
@@ -92,23 +94,25 @@ pick-found false i f = refl
 found-has : (q : Cell → Bool) (k : ℕ) (cs : List Cell) → isFound (lowestFrom k q cs) ≡ hasCell q cs
 unfolding lowestFrom hasCell
 found-has q k [] = refl
-found-has q k (c ∷ cs) = pick-found (q c) k (lowestFrom (k + 1) q cs) ∙ ap (λ (u : Bool). q c || u) (found-has q (k + 1) cs)
+found-has q k (c ∷ cs) =
+    pick-found (q c) k (lowestFrom (k + 1) q cs) ∙ ap (λ (u : Bool). q c || u) (found-has q (k + 1) cs)
 
 -- ---- the number that a step answers is that of the first row that holds
 module _ (b : Board) (ws : List ℕ) where
-  row : (t : Bool) (a rest : Answer) (o : Outcome) (k : ℕ) → eqb (numberOf a) 0 ≡ false → unlessRefused rest b ws o .number ≡ k
-      → unlessRefused (refuseIf t a rest) b ws o .number ≡ cond t (numberOf a) k
-  row true a rest o k e h = rw e
-  row false a rest o k e h = h
+  row : (t : Bool) (a later : Answer) (o : Outcome) (k : ℕ) → eqb (numberOf a) 0 ≡ false
+      → unlessRefused later b ws o .number ≡ k → unlessRefused (refuseIf t a later) b ws o .number ≡ cond t (numberOf a) k
+  row true a later o k e h = rw e
+  row false a later o k e h = h
 
-  module _ (p key : ℕ) where
-    own : (f : Found) → ownAt key (numberAt b p) (cellsOf ws) ≡ f → hasCell (mine key (numberAt b p)) (cellsOf ws) ≡ isFound f
-    unfolding ownAt
-    own f e = sym (found-has (mine key (numberAt b p)) 0 (cellsOf ws)) ∙ ap isFound e
+  own : (p key : ℕ) (f : Found) → ownAt key (numberAt b p) (cellsOf ws) ≡ f
+      → hasCell (mine key (numberAt b p)) (cellsOf ws) ≡ isFound f
+  unfolding ownAt
+  own p key f e = sym (found-has (mine key (numberAt b p)) 0 (cellsOf ws)) ∙ ap isFound e
 
-    room : (f : Found) → reusable (b .places) (cellsOf ws) ≡ f → hasCell (free (b .places) (cellsOf ws)) (cellsOf ws) ≡ isFound f
-    unfolding reusable
-    room f e = sym (found-has (free (b .places) (cellsOf ws)) 0 (cellsOf ws)) ∙ ap isFound e
+  room : (f : Found) → reusable (b .places) (cellsOf ws) ≡ f
+      → hasCell (free (b .places) (cellsOf ws)) (cellsOf ws) ≡ isFound f
+  unfolding reusable
+  room f e = sym (found-has (free (b .places) (cellsOf ws)) 0 (cellsOf ws)) ∙ ap isFound e
 
   abbrev ownRows : Call → ℕ
   ownRows call = cond (givenConflict b ws call) 9 (cond (givenPrepared b ws call) 10 (cond (givenFull b ws call) 11 0))
@@ -124,8 +128,8 @@ module _ (b : Board) (ws : List ℕ) where
       on-update (λ o. o .number ≡ ownRows (Call.Update p key value)) b ws p key value
       (λ i e. rw (own p key _ e))
       (λ e c. rw (own p key _ e, c))
-      (λ e c i f. rw (own p key _ e, c, room p key _ f))
-      (λ e c f. rw (own p key _ e, c, room p key _ f))
+      (λ e c i f. rw (own p key _ e, c, room _ f))
+      (λ e c f. rw (own p key _ e, c, room _ f))
   done-number (Call.Prepare p) = refl
   done-number (Call.Commit p) = refl
   done-number (Call.Rollback p) = refl
@@ -144,58 +148,67 @@ module _ (b : Board) (ws : List ℕ) where
         (row (givenHeld (stateAt b call) call) Answer.Held _ o _ refl
         (row (givenKey call) Answer.Key (Answer.Ok 0) o _ refl (done-number call))))))))
 
-    -- for every number n from 1: the step answers n if and only if row n holds and no earlier row does
-    pub exact : (n : ℕ) → 1 ≤ n → (step b ws call .number ≡ n) ↔ ((given n b ws call ≡ true) × ((m : ℕ) → m < n → given m b ws call ≡ false))
-    unfolding rows
+    pub exact : (n : ℕ) → 1 ≤ n
+        → (step b ws call .number ≡ n) ↔ ((given n b ws call ≡ true) × ((m : ℕ) → m < n → given m b ws call ≡ false))
     exact n h = rw step-number (told-first (rows b ws call) _ n h (told 0 (rows b ws call)))
 
-    -- and 0 if and only if no row holds
     pub ok-exact : (step b ws call .number ≡ 0) ↔ ((n : ℕ) → given n b ws call ≡ false)
     unfolding rows
     ok-exact = rw step-number (told-none (rows b ws call) _ refl (told 0 (rows b ws call)))
 
-    -- a step never gives 12, nor a number above
     pub never-above : step b ws call .number ≤ 11
     unfolding rows
     never-above =
-        let f : 11 < step b ws call .number → ⊥ =
-        λ h. true≢false (sym (exact (step b ws call .number) (omega arith) .0 refl .0) ∙ List·getD-eq-default (rows b ws call) false h) in
+        let n = step b ws call .number in
+        let past : 11 < n → given n b ws call ≡ false = λ h. List·getD-eq-default (rows b ws call) false h in
+        let never : 11 < n → ⊥ = λ h. true≢false (sym (exact n (omega arith) .0 refl .0) ∙ past h) in
         omega arith
 
 -- ---- no cell passes a test if and only if each does not
-none-at : (q : Cell → Bool) (cs : List Cell) (i : ℕ) → hasCell q cs ≡ false → i < length cs → q (getD cs i noCell) ≡ false
+none-at : (q : Cell → Bool) (cs : List Cell) (i : ℕ)
+    → hasCell q cs ≡ false → i < length cs → q (getD cs i noCell) ≡ false
 unfolding hasCell
 none-at q [] i e h = absurd (omega arith)
 none-at q (c ∷ cs) zero e h = or-left (q c) (hasCell q cs) e
 none-at q (c ∷ cs) (suc i) e h = none-at q cs i (or-right (q c) (hasCell q cs) e) (le-of-suc-le-suc h)
 
-at-none : (q : Cell → Bool) (cs : List Cell) → ((i : ℕ) → i < length cs → q (getD cs i noCell) ≡ false) → hasCell q cs ≡ false
+at-none : (q : Cell → Bool) (cs : List Cell)
+    → ((i : ℕ) → i < length cs → q (getD cs i noCell) ≡ false) → hasCell q cs ≡ false
 unfolding hasCell
 at-none q [] f = refl
 at-none q (c ∷ cs) f = or-neither (f 0 (omega arith)) (at-none q cs (λ i h. f (suc i) (omega arith)))
 
--- FULL is given if and only if the update gets that far and every cell is neither empty nor spent
-module _ (b : Board) (ws : List ℕ) (p key value : ℕ) where
-  abbrev cell : ℕ → Cell
-  cell i = getD (cellsOf ws) i noCell
+module _ (b : Board) (ws : List ℕ) where
+  -- cell i is neither empty nor spent
+  abbrev pub Neither : ℕ → Type 0
+  Neither i =
+      let c = getD (cellsOf ws) i noCell in
+      (empty c ≡ false) × (spent (b .places) (cellsOf ws) c ≡ false)
 
-  pub full-exact : (step b ws (Call.Update p key value) .number ≡ 11)
-      ↔ (((m : ℕ) → m < 11 → given m b ws (Call.Update p key value) ≡ false)
-      × (noOwn b ws p key ≡ true)
-      × ((i : ℕ) → i < countOf (length ws) → (empty (cell i) ≡ false) × (spent (b .places) (cellsOf ws) (cell i) ≡ false)))
-  unfolding rows
-  full-exact =
-      let q = free (b .places) (cellsOf ws) in
-      let call = Call.Update p key value in (
-        λ e.
-            let f = exact b ws call 11 (omega arith) .0 e in (
-              f .1,
-              and-left (noOwn b ws p key) _ (f .0),
-              λ i h.
-                  let z = none-at q (cellsOf ws) i (not-true _ (and-right (noOwn b ws p key) _ (f .0))) (omega (arith, length-cells ws)) in
-                  (or-left (empty (cell i)) _ z, or-right (empty (cell i)) _ z),
-            ),
-        λ f.
-            exact b ws call 11 (omega arith) .1
-            (and-both (f .1) (ap not (at-none q (cellsOf ws) (λ i h. let z = f .2 i (omega (arith, length-cells ws)) in or-neither (z .0) (z .1)))), f .0),
-      )
+  abbrev isFree : Cell → Bool
+  isFree = free (b .places) (cellsOf ws)
+
+  none-free : (hasCell isFree (cellsOf ws) ≡ false) ↔ ((i : ℕ) → i < countOf (length ws) → Neither i)
+  none-free = (
+    λ e i h.
+        let z = none-at isFree (cellsOf ws) i e (omega (arith, length-cells ws)) in
+        (or-left (empty (getD (cellsOf ws) i noCell)) _ z, or-right (empty (getD (cellsOf ws) i noCell)) _ z),
+    λ f. at-none isFree (cellsOf ws) (λ i h. let z = f i (omega (arith, length-cells ws)) in or-neither (z .0) (z .1)),
+  )
+
+  module _ (p key value : ℕ) where
+    abbrev call : Call
+    call = Call.Update p key value
+
+    pub full-exact : (step b ws call .number ≡ 11)
+        ↔ (((m : ℕ) → m < 11 → given m b ws call ≡ false)
+        × (noOwn b ws p key ≡ true)
+        × ((i : ℕ) → i < countOf (length ws) → Neither i))
+    unfolding rows
+    full-exact =
+        let e = exact b ws call 11 (omega arith) in (
+          λ n.
+              let f = e .0 n in
+              (f .1, and-left (noOwn b ws p key) _ (f .0), none-free .0 (not-true _ (and-right (noOwn b ws p key) _ (f .0)))),
+          λ f. e .1 (and-both (f .1) (ap not (none-free .1 (f .2))), f .0),
+        )

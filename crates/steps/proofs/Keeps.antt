@@ -1,7 +1,9 @@
--- A step on a board in shape leaves a board in shape.
---     keeps-shape      for any cells and any call; the number of words and of places stays as it was
--- Of the places not idle only the caller's changes. What is said of them is said of that one and of the others: `Put q others all` is that
--- all are the others with q put in among them.
+-- A step on a board in shape leaves a board in shape, whatever its cells hold.
+--     keeps-shape        for any words and any call
+--     keeps-lengths      on any board: the number of words, and of places, stays as it was
+--     Shape              in shape, in facts; shape-of and in-shape go there and back
+-- Of the places not idle only the caller's changes. So what is said of them all is said of that one and of the others:
+-- `Put q others all` is that they all are the others with q put in among them.
 -- Assumes nothing.
 use Prim.Native.Nat.{ℕ, zero, suc, _+_, _≤_, _<_}
 use mathlib.Core.Path.{_≡_, refl, sym, ap, _∙_}
@@ -10,7 +12,8 @@ use mathlib.Core.Bool.{Bool, true, false, cond, not, _&&_, _||_, true≢false}
 use mathlib.Core.List.{List, [], _∷_, map}
 use native.Mathlib.Nat.{le-of-suc-le-suc}
 use native.Mathlib.Omega.{arith}
-use borrow.Author.Tests.{leb-true, leb-false, le-leb, ltb-true, ltb-false, eqb-true, eqb-false, eq-eqb, ne-eqb, not-false}
+use borrow.Author.Tests.{leb-true, leb-false, le-leb, ltb-true, ltb-false}
+use borrow.Author.Tests.{eqb-true, eqb-false, eq-eqb, ne-eqb, not-false}
 use lib.Dec.{eqb, leb, ltb}
 use lib.ListN.{length, getD, set, length-set, length-map}
 use lib.Seq.{set-getD, set-out}
@@ -23,7 +26,7 @@ use Rattle.steps.specs.declared.Place.{Place}
 use Rattle.steps.specs.declared.Board.{Board}
 use Rattle.steps.specs.Record.{mostCells, mostStarts, isIdle, idlePlace, placeAt}
 use Rattle.steps.specs.Shape.{held, hasNumber, distinct, counted, each, inShape}
-use Rattle.steps.specs.Step.{Outcome, withPlace, inState, started, done, step}
+use Rattle.steps.specs.Step.{Outcome, withPlace, inState, done, step}
 use Rattle.steps.proofs.Tests.{two, and-both, and-left, and-right, or-neither}
 use Rattle.steps.proofs.Cases.{Cleared, on-step, on-read, on-update}
 
@@ -53,11 +56,15 @@ swap-or false b c = refl
 put-has : (n : ℕ) {q : Place} {l m : List Place} → Put q l m → hasNumber n m ≡ (eqb (q .number) n || hasNumber n l)
 put-has n here = refl
 put-has n {q} (there {x} {l} r) =
-    ap (λ (u : Bool). eqb (x .number) n || u) (put-has n r) ∙ swap-or (eqb (x .number) n) (eqb (q .number) n) (hasNumber n l)
+    ap (λ (u : Bool). eqb (x .number) n || u) (put-has n r)
+    ∙ swap-or (eqb (x .number) n) (eqb (q .number) n) (hasNumber n l)
 
 eqb-swap : (a b : ℕ) → eqb a b ≡ eqb b a
 eqb-swap a b =
-    ⊎-elim (λ e. e ∙ sym (eq-eqb b a (sym (eqb-true a b e)))) (λ e. e ∙ sym (ne-eqb b a (λ f. eqb-false a b e (sym f)))) (two (eqb a b))
+    ⊎-elim
+    (λ e. e ∙ sym (eq-eqb b a (sym (eqb-true a b e))))
+    (λ e. e ∙ sym (ne-eqb b a (λ f. eqb-false a b e (sym f))))
+    (two (eqb a b))
 
 swap-not : (a b c d : Bool) → (not (a || b) && (not c && d)) ≡ (not (a || c) && (not b && d))
 swap-not true b c d = refl
@@ -70,7 +77,8 @@ put-distinct {q} (there {x} {l} r) =
     (swap-not (eqb (x .number) (q .number)) (hasNumber (x .number) l) (hasNumber (q .number) l) (distinct l))
 
 -- ---- the places not idle, where place i is q
-put-at : (ps : List Place) (i : ℕ) (q : Place) → i < length ps → isIdle (q .state) ≡ false → Put q (held (set ps i idlePlace)) (held (set ps i q))
+put-at : (ps : List Place) (i : ℕ) (q : Place) → i < length ps → isIdle (q .state) ≡ false
+    → Put q (held (set ps i idlePlace)) (held (set ps i q))
 put-at [] i q h e = absurd (omega arith)
 put-at (p ∷ ps) zero q h e = rw e here
 put-at (p ∷ ps) (suc i) q h e = more (isIdle (p .state)) (put-at ps i q (le-of-suc-le-suc h) e)
@@ -135,7 +143,9 @@ module _ (b : Board) (words : ℕ) where
 
   pub in-shape : Shape b words → inShape b words ≡ true
   unfolding inShape
-  in-shape s = and-both (and-both (and-both (and-both (s .whole) (le-leb _ _ (s .few))) (le-leb _ _ (s .room))) (s .apart)) (s .within)
+  in-shape s =
+      let e₂ = and-both (s .whole) (le-leb _ _ (s .few)) in
+      and-both (and-both (and-both e₂ (le-leb _ _ (s .room))) (s .apart)) (s .within)
 
 -- ---- the counts
 counted-parts : (s c : ℕ) (p : Place) → counted s c p ≡ true → (1 ≤ p .number) × (p .number ≤ s) × (p .view ≤ c)
@@ -149,53 +159,71 @@ counted-parts s c p e =
 counted-of : (s c : ℕ) (p : Place) → 1 ≤ p .number → p .number ≤ s → p .view ≤ c → counted s c p ≡ true
 counted-of s c p h k l = and-both (and-both (le-leb _ _ h) (le-leb _ _ k)) (le-leb _ _ l)
 
--- larger counts hold what smaller ones held
-each-more : (s s′ c c′ : ℕ) → s ≤ s′ → c ≤ c′ → (l : List Place) → each (counted s c) l ≡ true → each (counted s′ c′) l ≡ true
-each-more s s′ c c′ hs hc [] e = refl
-each-more s s′ c c′ hs hc (p ∷ l) e =
-    let k = counted-parts s c p (and-left (counted s c p) (each (counted s c) l) e) in
-    and-both (counted-of s′ c′ p (k .0) (omega arith) (omega arith))
-    (each-more s s′ c c′ hs hc l (and-right (counted s c p) (each (counted s c) l) e))
+module _ (s c : ℕ) where
+  each-parts : (p : Place) (l : List Place) → each (counted s c) (p ∷ l) ≡ true
+      → ((1 ≤ p .number) × (p .number ≤ s) × (p .view ≤ c)) × (each (counted s c) l ≡ true)
+  each-parts p l e =
+      (counted-parts s c p (and-left (counted s c p) (each (counted s c) l) e), and-right (counted s c p) (each (counted s c) l) e)
 
--- no place has a number above the start count
-has-none : (s c n : ℕ) → s < n → (l : List Place) → each (counted s c) l ≡ true → hasNumber n l ≡ false
-has-none s c n h [] e = refl
-has-none s c n h (p ∷ l) e =
-    let k = counted-parts s c p (and-left (counted s c p) (each (counted s c) l) e) in
-    or-neither (ne-eqb (p .number) n (λ q. omega arith)) (has-none s c n h l (and-right (counted s c p) (each (counted s c) l) e))
+  -- larger counts hold what these held
+  each-more : (s′ c′ : ℕ) → s ≤ s′ → c ≤ c′ → (l : List Place) → each (counted s c) l ≡ true → each (counted s′ c′) l ≡ true
+  each-more s′ c′ hs hc [] e = refl
+  each-more s′ c′ hs hc (p ∷ l) e =
+      let k = each-parts p l e in
+      and-both (counted-of s′ c′ p (k .0 .0) (omega arith) (omega arith)) (each-more s′ c′ hs hc l (k .1))
+
+  -- no place has a number above the start count
+  has-none : (n : ℕ) → s < n → (l : List Place) → each (counted s c) l ≡ true → hasNumber n l ≡ false
+  has-none n h [] e = refl
+  has-none n h (p ∷ l) e =
+      let k = each-parts p l e in
+      or-neither (ne-eqb (p .number) n (λ q. omega arith)) (has-none n h l (k .1))
 
 -- ---- the steps
 module _ (b : Board) (words : ℕ) (s : Shape b words) where
-  -- the start count has grown, and no place is changed yet
-  grown : b .starts < mostStarts → Shape (record { places = b .places; starts = b .starts + 1; commits = b .commits }) words
-  grown h =
-      record {
-        whole = s .whole;
-        few = omega arith;
-        room = omega (arith, s .room);
-        apart = s .apart;
-        within = each-more (b .starts) (b .starts + 1) (b .commits) (b .commits) (omega arith) (omega arith) (held (b .places)) (s .within);
-      }
+  abbrev fits : Place → Bool
+  fits = counted (b .starts) (b .commits)
 
-  -- an idle place takes the new transaction
-  started-shape : (p : ℕ) → isIdle (placeAt b p .state) ≡ true → b .starts < mostStarts → Shape (started b [] p .board) words
-  started-shape p i h =
-      ⊎-elim
-      (λ l.
-      let q : Place = record { state = State.Open; number = b .starts + 1; view = b .commits } in
-      let r : Put q (held (b .places)) (held (set (b .places) p q)) =
-      rw idle-at at (put-at (b .places) p q (ltb-true _ _ l) refl) in
-      record {
-        whole = s .whole;
-        few = omega arith;
-        room = omega (arith, s .room, put-length r);
-        apart = put-distinct r ∙ and-both (ap not (has-none (b .starts) (b .commits) (b .starts + 1) (omega arith) (held (b .places)) (s .within))) (s .apart);
-        within =
-            put-each (counted (b .starts + 1) (b .commits)) r
-            ∙ and-both (counted-of (b .starts + 1) (b .commits) q (omega arith) (omega arith) (omega arith)) (grown h .within);
-      })
-      (λ l. rw (set-out (b .places) p _ (ltb-false _ _ l)) (grown h))
-      (two (ltb p (length (b .places))))
+  module _ (p : ℕ) (i : isIdle (placeAt b p .state) ≡ true) (h : b .starts < mostStarts) where
+    abbrev new : Place
+    new = record { state = State.Open; number = b .starts + 1; view = b .commits }
+
+    abbrev after : List Place → Board
+    after ps = record { places = ps; starts = b .starts + 1; commits = b .commits }
+
+    -- the start count has grown, and the places are as they were
+    grown : Shape (after (b .places)) words
+    grown =
+        record {
+          whole = s .whole;
+          few = omega arith;
+          room = omega (arith, s .room);
+          apart = s .apart;
+          within = each-more _ _ (b .starts + 1) (b .commits) (omega arith) (omega arith) (held (b .places)) (s .within);
+        }
+
+    -- and an idle place takes the new transaction
+    entered : Put new (held (b .places)) (held (set (b .places) p new)) → Shape (after (set (b .places) p new)) words
+    entered r =
+        record {
+          whole = s .whole;
+          few = omega arith;
+          room = omega (arith, s .room, put-length r);
+          apart =
+              put-distinct r
+              ∙ and-both (ap not (has-none _ _ (b .starts + 1) (omega arith) (held (b .places)) (s .within))) (s .apart);
+          within =
+              put-each (counted (b .starts + 1) (b .commits)) r
+              ∙ and-both (counted-of _ _ new (omega arith) (omega arith) (omega arith)) (grown .within);
+        }
+
+    -- a place past the last stays out
+    start-shape : Shape (after (set (b .places) p new)) words
+    start-shape =
+        ⊎-elim
+        (λ l. entered (rw idle-at at (put-at (b .places) p new (ltb-true _ _ l) refl)))
+        (λ l. rw (set-out (b .places) p new (ltb-false _ _ l)) grown)
+        (two (ltb p (length (b .places))))
 
   module _ (p : ℕ) (e : isIdle (placeAt b p .state) ≡ false) where
     abbrev others : List Place
@@ -212,15 +240,15 @@ module _ (b : Board) (words : ℕ) (s : Shape b words) where
           whole = s .whole;
           few = s .few;
           room = omega (arith, s .room, put-length old);
-          apart = and-right (not (hasNumber (placeAt b p .number) others)) (distinct others) (sym (put-distinct old) ∙ s .apart);
+          apart = and-right (not (hasNumber (placeAt b p .number) others)) _ (sym (put-distinct old) ∙ s .apart);
           within =
-              each-more (b .starts) (b .starts) (b .commits) c (omega arith) lo others
-              (and-right (counted (b .starts) (b .commits) (placeAt b p)) _ (sym (put-each (counted (b .starts) (b .commits)) old) ∙ s .within));
+              each-more (b .starts) (b .commits) (b .starts) c (omega arith) lo others
+              (and-right (fits (placeAt b p)) _ (sym (put-each fits old) ∙ s .within));
         }
 
     -- the place changes its state alone
-    turned-shape : (t : State) → isIdle t ≡ false → Shape (withPlace b p (inState t (placeAt b p))) words
-    turned-shape t i =
+    turn-shape : (t : State) → isIdle t ≡ false → Shape (withPlace b p (inState t (placeAt b p))) words
+    turn-shape t i =
         let r : Put (inState t (placeAt b p)) others (held (set (b .places) p (inState t (placeAt b p)))) =
         put-at (b .places) p (inState t (placeAt b p)) (inside (b .places) p e) i in
         record {
@@ -228,55 +256,57 @@ module _ (b : Board) (words : ℕ) (s : Shape b words) where
           few = s .few;
           room = omega (arith, s .room, put-length old, put-length r);
           apart = put-distinct r ∙ sym (put-distinct old) ∙ s .apart;
-          within = put-each (counted (b .starts) (b .commits)) r ∙ sym (put-each (counted (b .starts) (b .commits)) old) ∙ s .within;
+          within = put-each fits r ∙ sym (put-each fits old) ∙ s .within;
         }
 
 module _ (b : Board) (ws : List ℕ) where
-  abbrev SameLengths : Outcome → Type 0
-  SameLengths o = (length (o .words) ≡ length ws) × (length (o .board .places) ≡ length (b .places))
+  placed : (p : ℕ) (q : Place) → length (set (b .places) p q) ≡ length (b .places)
+  placed p q = length-set (b .places) p q
 
-  -- on any board, a step leaves as many words and as many places as there were
-  pub keeps-lengths : (call : Call) → SameLengths (step b ws call)
-  keeps-lengths call = on-step SameLengths b ws call (λ a e. (refl, refl)) (λ _. of call)
-    where
-      placed : (p : ℕ) (q : Place) → length (set (b .places) p q) ≡ length (b .places)
-      placed p q = length-set (b .places) p q
+  written : (i : ℕ) (c : Cell) → length (withCells ws (set (cellsOf ws) i c)) ≡ length ws
+  written i c = length-same ws _ (length-set (cellsOf ws) i c)
 
-      written : (i : ℕ) (c : Cell) → length (withCells ws (set (cellsOf ws) i c)) ≡ length ws
-      written i c = length-same ws _ (length-set (cellsOf ws) i c)
+  mapped : (f : Cell → Cell) → length (withCells ws (map f (cellsOf ws))) ≡ length ws
+  mapped f = length-same ws _ (length-map (cellsOf ws) f)
 
-      mapped : (f : Cell → Cell) → length (withCells ws (map f (cellsOf ws))) ≡ length ws
-      mapped f = length-same ws _ (length-map (cellsOf ws) f)
+  abbrev Lengths : Outcome → Type 0
+  Lengths o = (length (o .words) ≡ length ws) × (length (o .board .places) ≡ length (b .places))
 
-      of : (call : Call) → SameLengths (done b ws call)
-      of (Call.Start p) = (refl, placed p _)
-      of (Call.Read p key) = on-read SameLengths b ws p key (λ i e. (refl, refl)) (λ n e. (refl, refl)) (λ n e. (refl, refl))
-      of (Call.Update p key value) =
-          on-update SameLengths b ws p key value
-          (λ i e. (written i _, refl))
-          (λ n e. (refl, placed p _))
-          (λ n e i f. (written i _, refl))
-          (λ n e f. (refl, refl))
-      of (Call.Prepare p) = (refl, placed p _)
-      of (Call.Commit p) = (mapped _, placed p _)
-      of (Call.Rollback p) = (mapped _, placed p _)
+  done-lengths : (call : Call) → Lengths (done b ws call)
+  done-lengths (Call.Start p) = (refl, placed p _)
+  done-lengths (Call.Read p key) = on-read Lengths b ws p key (λ i e. (refl, refl)) (λ e h. (refl, refl)) (λ e h. (refl, refl))
+  done-lengths (Call.Update p key value) =
+      on-update Lengths b ws p key value
+      (λ i e. (written i _, refl))
+      (λ e h. (refl, placed p _))
+      (λ e h i f. (written i _, refl))
+      (λ e h f. (refl, refl))
+  done-lengths (Call.Prepare p) = (refl, placed p _)
+  done-lengths (Call.Commit p) = (mapped _, placed p _)
+  done-lengths (Call.Rollback p) = (mapped _, placed p _)
+
+  pub keeps-lengths : (call : Call)
+      → (length (step b ws call .words) ≡ length ws) × (length (step b ws call .board .places) ≡ length (b .places))
+  keeps-lengths call = on-step Lengths b ws call (λ a e. (refl, refl)) (λ g. done-lengths call)
 
   abbrev Fits : Outcome → Type 0
   Fits o = Shape (o .board) (length ws)
 
-  -- on a board in shape, a step leaves a board in shape
-  pub keeps-shape : (call : Call) → inShape b (length ws) ≡ true → inShape (step b ws call .board) (length (step b ws call .words)) ≡ true
-  keeps-shape call e =
-      rw (keeps-lengths call .0) (in-shape _ _ (on-step Fits b ws call (λ a _. s) (of call)))
-    where
-      s : Shape b (length ws)
-      s = shape-of b (length ws) e
+  done-shape : Shape b (length ws) → (call : Call) → Cleared b (length ws) call → Fits (done b ws call)
+  done-shape s (Call.Start p) g = start-shape b (length ws) s p (not-false _ (g .busy)) (leb-false _ _ (g .worn))
+  done-shape s (Call.Read p key) g = on-read Fits b ws p key (λ i e. s) (λ e h. s) (λ e h. s)
+  done-shape s (Call.Update p key value) g =
+      on-update Fits b ws p key value
+      (λ i e. s)
+      (λ e h. turn-shape b (length ws) s p (g .idle) State.Spoiled refl)
+      (λ e h i f. s)
+      (λ e h f. s)
+  done-shape s (Call.Prepare p) g = turn-shape b (length ws) s p (g .idle) State.Prepared refl
+  done-shape s (Call.Commit p) g = idle-shape b (length ws) s p (g .idle) _ (omega arith) (omega arith)
+  done-shape s (Call.Rollback p) g = idle-shape b (length ws) s p (g .idle) _ (omega arith) (omega arith)
 
-      of : (call : Call) → Cleared b (length ws) call → Fits (done b ws call)
-      of (Call.Start p) g = started-shape b (length ws) s p (not-false _ (g .busy)) (leb-false _ _ (g .worn))
-      of (Call.Read p key) g = on-read Fits b ws p key (λ i e. s) (λ n e. s) (λ n e. s)
-      of (Call.Update p key value) g =
-          on-update Fits b ws p key value (λ i e. s) (λ n e. turned-shape b (length ws) s p (g .idle) State.Spoiled refl) (λ n e i f. s) (λ n e f. s)
-      of (Call.Prepare p) g = turned-shape b (length ws) s p (g .idle) State.Prepared refl
-      of (Call.Commit p) g = idle-shape b (length ws) s p (g .idle) (b .commits + 1) (omega arith) (omega arith)
-      of (Call.Rollback p) g = idle-shape b (length ws) s p (g .idle) (b .commits) (omega arith) (omega arith)
+  pub keeps-shape : (call : Call) → inShape b (length ws) ≡ true
+      → inShape (step b ws call .board) (length (step b ws call .words)) ≡ true
+  keeps-shape call e =
+      let s = shape-of b (length ws) e in
+      rw (keeps-lengths call .0) (in-shape _ _ (on-step Fits b ws call (λ a _. s) (done-shape s call)))

@@ -15,8 +15,8 @@ use Rattle.steps.specs.Record.{placeAt}
 use Rattle.steps.specs.Step.{Outcome, answered, withPlace, inState, done, step}
 use Rattle.steps.proofs.Cases.{Cleared, on-step, on-read, on-update, open-of}
 
--- value 0, the words and both counts as before; and the whole record as before, but where the number is 9: there the caller's place, and
--- no other, goes from open to spoiled, its number and view as they were
+-- value 0, the words and both counts as before; and the whole record as before, but where the number is 9: there the caller's place
+-- goes from open to spoiled, its number and view as they were, and no other place changes
 pub record ChangesNothing (b : Board) (ws : List ℕ) (p : ℕ) (o : Outcome) : Type 0 where
   pub value : o .value ≡ 0
   pub words : o .words ≡ ws
@@ -27,50 +27,57 @@ pub record ChangesNothing (b : Board) (ws : List ℕ) (p : ℕ) (o : Outcome) : 
   pub spoiled-after : o .number ≡ 9 → o .board ≡ withPlace b p (inState State.Spoiled (placeAt b p))
 
 module _ (b : Board) (ws : List ℕ) where
-  abbrev Refusal : ℕ → Outcome → Type 0
-  Refusal p o = (o .number ≡ 0 → ⊥) → ChangesNothing b ws p o
+  module _ (p : ℕ) where
+    abbrev Refusal : Outcome → Type 0
+    Refusal o = (o .number ≡ 0 → ⊥) → ChangesNothing b ws p o
 
-  -- OK is no refusal
-  ok : (p : ℕ) (o : Outcome) → o .number ≡ 0 → Refusal p o
-  ok p o e r = absurd (r e)
+    -- OK is no refusal
+    ok : (v : ℕ) (b′ : Board) (ws′ : List ℕ) → Refusal (answered (Answer.Ok v) b′ ws′)
+    ok v b′ ws′ r = absurd (r refl)
 
-  -- a refusal but CONFLICT
-  plain : (p : ℕ) (a : Answer) → (numberOf a ≡ 9 → ⊥) → valueOf a ≡ 0 → Refusal p (answered a b ws)
-  plain p a e v r =
-      record {
-        value = v;
-        words = refl;
-        starts = refl;
-        commits = refl;
-        board = λ _. refl;
-        open-before = λ c. absurd (e c);
-        spoiled-after = λ c. absurd (e c);
-      }
+    -- any other but CONFLICT hands the record back
+    plain : (a : Answer) → (numberOf a ≡ 9 → ⊥) → valueOf a ≡ 0 → Refusal (answered a b ws)
+    plain a e v r =
+        record {
+          value = v;
+          words = refl;
+          starts = refl;
+          commits = refl;
+          board = λ _. refl;
+          open-before = λ c. absurd (e c);
+          spoiled-after = λ c. absurd (e c);
+        }
 
-  conflict : (p : ℕ) → placeAt b p .state ≡ State.Open → Refusal p (answered Answer.Conflict (withPlace b p (inState State.Spoiled (placeAt b p))) ws)
-  conflict p s r =
-      record {
-        value = refl;
-        words = refl;
-        starts = refl;
-        commits = refl;
-        board = λ c. absurd (c refl);
-        open-before = λ _. s;
-        spoiled-after = λ _. refl;
-      }
+    spoils : placeAt b p .state ≡ State.Open → Refusal (answered Answer.Conflict (withPlace b p (inState State.Spoiled (placeAt b p))) ws)
+    spoils e r =
+        record {
+          value = refl;
+          words = refl;
+          starts = refl;
+          commits = refl;
+          board = λ c. absurd (c refl);
+          open-before = λ _. e;
+          spoiled-after = λ _. refl;
+        }
 
-  passed : (call : Call) → Cleared b (length ws) call → Refusal (placeOf call) (done b ws call)
-  passed (Call.Start p) g = ok p _ refl
-  passed (Call.Read p key) g =
-      on-read (Refusal p) b ws p key (λ i e. ok p _ refl) (λ n e. plain p Answer.Prepared (λ c. omega arith) refl) (λ n e. ok p _ refl)
-  passed (Call.Update p key value) g =
-      on-update (Refusal p) b ws p key value (λ i e. ok p _ refl)
-      (λ n e. conflict p (open-of (placeAt b p .state) (g .idle) (g .spoiled) (g .held)))
-      (λ n e i f. ok p _ refl)
-      (λ n e f. plain p Answer.Full (λ c. omega arith) refl)
-  passed (Call.Prepare p) g = ok p _ refl
-  passed (Call.Commit p) g = ok p _ refl
-  passed (Call.Rollback p) g = ok p _ refl
+  after : (call : Call) → Cleared b (length ws) call → Refusal (placeOf call) (done b ws call)
+  after (Call.Start p) g = ok p _ _ _
+  after (Call.Read p key) g =
+      on-read (Refusal p) b ws p key
+      (λ i e. ok p _ _ _)
+      (λ e h. plain p Answer.Prepared (omega arith) refl)
+      (λ e h. ok p _ _ _)
+  after (Call.Update p key value) g =
+      on-update (Refusal p) b ws p key value
+      (λ i e. ok p _ _ _)
+      (λ e h. spoils p (open-of (placeAt b p .state) (g .idle) (g .spoiled) (g .held)))
+      (λ e h i f. ok p _ _ _)
+      (λ e h f. plain p Answer.Full (omega arith) refl)
+  after (Call.Prepare p) g = ok p _ _ _
+  after (Call.Commit p) g = ok p _ _ _
+  after (Call.Rollback p) g = ok p _ _ _
 
-  pub refusal-changes-nothing : (call : Call) → (step b ws call .number ≡ 0 → ⊥) → ChangesNothing b ws (placeOf call) (step b ws call)
-  refusal-changes-nothing call = on-step (Refusal (placeOf call)) b ws call (λ a e. plain (placeOf call) a (λ c. omega arith) (e .2)) (passed call)
+  pub refusal-changes-nothing : (call : Call) → (step b ws call .number ≡ 0 → ⊥)
+      → ChangesNothing b ws (placeOf call) (step b ws call)
+  refusal-changes-nothing call =
+      on-step (Refusal (placeOf call)) b ws call (λ a e. plain (placeOf call) a (λ c. omega arith) (e .2)) (after call)
