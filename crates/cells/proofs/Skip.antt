@@ -10,10 +10,11 @@ use Prim.Native.Nat.{ℕ, zero, suc, _+_, _-_, _≤_, _<_}
 use native.Mathlib.Omega.{arith}
 use borrow.Author.Count.{below-more}
 use borrow.Author.Tests.{ltb-true, ltb-false}
-use lib.Dec.{eqb, ltb}
+use lib.Dec.{eqb, ltb, leb}
 use lib.ListN.{length, getD, drop, drop-of-length-le}
 use Rattle.cells.specs.declared.Cell.{Cell}
-use Rattle.cells.specs.Cells.{noCell, cellsOf, withCells, empty, own}
+use Rattle.cells.specs.Cells.{noCell, cellsOf, withCells, empty, own, committed}
+use Rattle.cells.specs.Rules.{hasCell, between}
 use Rattle.cells.specs.Search.{partOf, partIs, fourHave, NextAt}
 use Rattle.cells.proofs.Laws.{drop-next, mapTo, mapTo-later, mapTo-skip}
 use Rattle.cells.proofs.Words.{cells-with}
@@ -85,6 +86,20 @@ module _ {R : Type 0} (go : ℕ → List Cell → R) (p : Cell → Bool)
   skip i r l h =
       let e : i + (r - i) ≡ r = omega arith in
       skip-by (r - i) i (λ k g. h k (omega arith)) ∙ ap (λ (m : ℕ). go m (drop m cs)) e
+
+-- the same for a question that only cells of a test can answer
+module _ (p q : Cell → Bool) (only : (c : Cell) → q c ≡ false → p c ≡ false) where
+  has-over : (i : ℕ) (c : Cell) (l : List Cell) → q c ≡ false → hasCell p (c ∷ l) ≡ hasCell p l
+  unfolding hasCell
+  has-over i c l e = ap (λ (t : Bool). t || hasCell p l) (only c e)
+
+  pub has-skip : (cs : List Cell) (i r : ℕ) → i ≤ r → ((k : ℕ) → k < r → Passed q cs i k)
+      → hasCell p (drop i cs) ≡ hasCell p (drop r cs)
+  has-skip cs = skip (λ i l. hasCell p l) q has-over (λ i j. refl) cs
+
+-- only cells of its first word come between a cell and a view
+pub between-other : (c : Cell) (view : ℕ) (d : Cell) → partIs false (c .word) d ≡ false → between c view d ≡ false
+between-other c view d e = ap (λ (t : Bool). t && committed d && ltb (c .commit) (d .commit) && leb (d .commit) view) e
 
 -- a committed cell is nobody's own
 no-own : (a b c : Bool) → b ≡ false → (a && b && c) ≡ false

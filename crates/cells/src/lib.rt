@@ -291,11 +291,13 @@ pub fn kept(cells: &[u32], c: Cell, view: u32) -> bool
         return false;
     }
     let n = count(cells);
-    for i in 0..n {
+    let mut i = next(cells, 0, false, c.word);
+    while i < n {
         let d = cell_at(cells, i);
         if c.between(d, view) {
             return false;
         }
+        i = next(cells, i + 1, false, c.word);
     }
     true
 }

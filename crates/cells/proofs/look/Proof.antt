@@ -13,13 +13,6 @@ use Rattle.cells.proofs.Words.{length-cells}
 use Rattle.cells.proofs.Looks.{look-skip, look-here, look-end, look-is, look-last}
 use Rattle.cells.proofs.look.Statement.{statement}
 use Rattle.cells.proofs.look.Tie as tie
-use Rattle.cells.proofs.look.Reads as reads
-use Rattle.cells.proofs.look.Lts as lts
-use Rattle.cells.proofs.Looked.none.Reads as none-reads
-use Rattle.cells.proofs.Looked.with.Reads as with-reads
-use Rattle.cells.proofs.cell_at.Reads as cell-at-reads
-use Rattle.cells.proofs.count.Reads as count-reads
-use Rattle.cells.proofs.next.Reads as next-reads
 
 abbrev Inv-loop : tie.InvT-loop
 Inv-loop cells key number view seen₀ n i₀ seen i =

@@ -12,8 +12,6 @@ use Rattle.cells.proofs.Words.{length-cells}
 use Rattle.cells.proofs.Skip.{eight-more, part-told}
 use Rattle.cells.proofs.next.Statement.{statement}
 use Rattle.cells.proofs.next.Tie as tie
-use Rattle.cells.proofs.next.Reads as reads
-use Rattle.cells.proofs.next.Lts as lts
 
 abbrev Inv-loop : tie.InvT-loop
 Inv-loop cells from commit word n i₀ i =

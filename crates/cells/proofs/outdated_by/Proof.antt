@@ -9,9 +9,6 @@ use Rattle.cells.specs.Rules.{hasCell, newer}
 use Rattle.cells.specs.Search.{outdatedBy, allTops}
 use Rattle.cells.proofs.outdated_by.Statement.{statement}
 use Rattle.cells.proofs.outdated_by.Tie as tie
-use Rattle.cells.proofs.outdated_by.Reads as reads
-use Rattle.cells.proofs.outdated_by.Lts as lts
-use Rattle.cells.proofs.outdated.Reads as outdated-reads
 
 cast-w : tie.Need-cast-w
 cast-w c = search needs

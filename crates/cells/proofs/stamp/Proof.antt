@@ -14,13 +14,6 @@ use Rattle.cells.proofs.Skip.{to-over, committed-not-own}
 use Rattle.cells.proofs.Writes.{stamped-other}
 use Rattle.cells.proofs.stamp.Statement.{statement}
 use Rattle.cells.proofs.stamp.Tie as tie
-use Rattle.cells.proofs.stamp.Reads as reads
-use Rattle.cells.proofs.stamp.Lts as lts
-use Rattle.cells.proofs.Cell.stamped.Reads as stamped-reads
-use Rattle.cells.proofs.cell_at.Reads as cell-at-reads
-use Rattle.cells.proofs.count.Reads as count-reads
-use Rattle.cells.proofs.next.Reads as next-reads
-use Rattle.cells.proofs.put_cell.Reads as put-cell-reads
 
 -- a committed cell stays as it is
 stays : (number commit : ℕ) (c : Cell) → partIs true 0 c ≡ false → stamped number commit c ≡ c

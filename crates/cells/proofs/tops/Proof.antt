@@ -8,10 +8,6 @@ use Rattle.cells.specs.Search.{allTops, topsFrom, topsOf}
 use Rattle.cells.proofs.Table.{turn-store, turn-leave, turn-past, tops-end}
 use Rattle.cells.proofs.tops.Statement.{statement}
 use Rattle.cells.proofs.tops.Tie as tie
-use Rattle.cells.proofs.tops.Reads as reads
-use Rattle.cells.proofs.tops.Lts as lts
-use Rattle.cells.proofs.cell_at.Reads as cell-at-reads
-use Rattle.cells.proofs.count.Reads as count-reads
 
 abbrev Inv-loop : tie.InvT-loop
 Inv-loop cells n t₀ i₀ t i =

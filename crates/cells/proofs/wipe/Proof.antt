@@ -14,13 +14,6 @@ use Rattle.cells.proofs.Skip.{to-over, committed-not-own}
 use Rattle.cells.proofs.Writes.{wiped-other}
 use Rattle.cells.proofs.wipe.Statement.{statement}
 use Rattle.cells.proofs.wipe.Tie as tie
-use Rattle.cells.proofs.wipe.Reads as reads
-use Rattle.cells.proofs.wipe.Lts as lts
-use Rattle.cells.proofs.Cell.wiped.Reads as wiped-reads
-use Rattle.cells.proofs.cell_at.Reads as cell-at-reads
-use Rattle.cells.proofs.count.Reads as count-reads
-use Rattle.cells.proofs.next.Reads as next-reads
-use Rattle.cells.proofs.put_cell.Reads as put-cell-reads
 
 -- a committed cell stays as it is
 stays : (number : ℕ) (c : Cell) → partIs true 0 c ≡ false → wiped number c ≡ c

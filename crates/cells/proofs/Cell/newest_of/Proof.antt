@@ -6,9 +6,6 @@ use Rattle.cells.specs.Cells.{seenBy}
 use Rattle.cells.proofs.Writes.{pick-true, pick-false}
 use Rattle.cells.proofs.Cell.newest_of.Statement.{statement}
 use Rattle.cells.proofs.Cell.newest_of.Tie as tie
-use Rattle.cells.proofs.Cell.newest_of.Reads as reads
-use Rattle.cells.proofs.Cell.newest_of.Lts as lts
-use Rattle.cells.proofs.Cell.seen_by.Reads as seen-by-reads
 
 seen-by-requires : tie.Need-seen-by-requires
 seen-by-requires c κs = search needs
