@@ -148,6 +148,9 @@ words-length cs = ap length (sym (whole-words [] cs refl)) ∙ length-with [] cs
 empty-length : (n : ℕ) → length (emptyWords n) ≡ 4 * n
 empty-length n = words-length (replicate n noCell) ∙ ap (λ (m : ℕ). 4 * m) (length-replicate n noCell)
 
+pub empty-count : (n : ℕ) → length (emptyWords n) / 4 ≡ n
+empty-count n = omega (arith, empty-length n)
+
 whole : (n words : ℕ) → words ≡ 4 * n → 0 < n → n ≤ mostCells → wholeCells mostCells words ≡ true
 whole n words e h l =
     both (both (eq-eqb (words % 4) 0 (omega arith)) (le-leb 1 (words / 4) (omega arith))) (le-leb (words / 4) mostCells (omega arith))

@@ -9,3 +9,5 @@ pub mod Close
 pub mod Fair
 pub mod Steps
 pub mod Demand
+pub mod Full
+pub mod Judge

@@ -1,3 +1,5 @@
 pub mod Calls
+pub mod Replies
+pub mod Rest
 pub mod Pieces
 pub mod Example

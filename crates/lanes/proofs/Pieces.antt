@@ -18,7 +18,7 @@ use Rattle.records.specs.declared.Reply.{Reply}
 use Rattle.records.specs.Format.{callBytes, answerBytes, answerRecord}
 use Rattle.steps.specs.declared.Board.{Board}
 use Rattle.lanes.specs.declared.Stop.{Stop}
-use Rattle.lanes.specs.Serve.{noCall, callsIn, Run, runOf, recordsOf, wholeCalls, tried, refused, pickStop, stopOf, Service, serveFirst, serveOf}
+use Rattle.lanes.specs.Serve.{noCall, callsIn, Run, runOf, recordsOf, wholeCalls, tried, refused, stopOf, Service, serveFirst, serveOf}
 use Rattle.lanes.specs.Desk.{answersTo, deskOf, deskWords, serveAll, atEnd, goesOn, inPieces}
 use Rattle.steps.specs.Record.{freshBoard}
 use Rattle.lanes.proofs.Calls.{callsIn-front, callsIn-at-most, callsIn-all, callsIn-stop, run-replies, records-append}
@@ -131,7 +131,7 @@ module _ (b : Board) (ws bytes more : List ℕ) where
         words = run .words;
         answers = plain i;
         taken = callBytes * e i;
-        stop = pickStop (good i) Stop.Record (pickStop (last i) Stop.End Stop.Room);
+        stop = cond (good i) Stop.Record (cond (last i) Stop.End Stop.Room);
       }
 
   served-stop : length calls < wholeCalls bytes
@@ -151,7 +151,7 @@ module _ (b : Board) (ws bytes more : List ℕ) where
         words = run .words;
         answers = recordsOf (run .replies) ++ cond (bad i) (answerRecord noCall) [];
         taken = callBytes * length calls;
-        stop = pickStop (bad i) Stop.Record (pickStop (leb (wholeCalls bytes) (wholeCalls bytes)) Stop.End Stop.Room);
+        stop = cond (bad i) Stop.Record (cond (leb (wholeCalls bytes) (wholeCalls bytes)) Stop.End Stop.Room);
       }
 
   piece-all : length calls ≡ wholeCalls bytes

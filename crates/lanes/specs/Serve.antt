@@ -14,6 +14,8 @@ use Rattle.records.specs.Format.{callBytes, answerBytes, answerOf, answerRecord
 use Rattle.steps.specs.declared.Board.{Board}
 use Rattle.steps.specs.Step.{Outcome, step}
 use Rattle.lanes.specs.declared.Stop.{Stop}
+use Rattle.lanes.specs.declared.Served.{Served}
+use Rattle.lanes.specs.declared.Next.{Next}
 
 -- the calls behind one that was read; none from bytes that are no call
 abbrev pub readThen : CallRead → List Call → List Call
@@ -64,13 +66,9 @@ tried bytes room = min (wholeCalls bytes) (room / answerBytes)
 abbrev pub refused : ℕ → ℕ → List ℕ
 refused calls records = cond (ltb calls records) (answerRecord noCall) []
 
-abbrev pub pickStop : Bool → Stop → Stop → Stop
-pickStop true a b = a
-pickStop false a b = b
-
 -- why it stopped: bytes that are no call; otherwise the end of the whole records, or no room for one more answer
 abbrev pub stopOf : ℕ → ℕ → ℕ → Stop
-stopOf calls records whole = pickStop (ltb calls records) Stop.Record (pickStop (leb whole records) Stop.End Stop.Room)
+stopOf calls records whole = cond (ltb calls records) Stop.Record (cond (leb whole records) Stop.End Stop.Room)
 
 -- what serving comes to: the record and the words, the bytes of the answers, how many bytes of calls were taken, and why it stopped
 pub record Service : Type 0 where
@@ -97,3 +95,48 @@ serveFirst records b ws bytes =
 -- until no room is left for one more answer
 unfoldable pub serveOf : Board → List ℕ → List ℕ → ℕ → Service
 serveOf b ws bytes room = serveFirst (tried bytes room) b ws bytes
+
+-- what a function of this crate handed back, with the lent words and bytes as it left them
+pub record Serving : Type 0 where
+  pub board : Board
+  pub words : List ℕ
+  pub answers : List ℕ
+  pub taken : ℕ
+  pub written : ℕ
+  pub stop : Stop
+
+abbrev pub serving : Served → List ℕ → List ℕ → Serving
+serving r ws answers =
+    record { board = r .board; words = ws; answers = answers; taken = r .taken; written = r .written; stop = r .stop }
+
+-- serving into lent bytes: the answers from the front, the bytes past them stay
+abbrev pub intoBytes : List ℕ → Service → Serving
+intoBytes answers s =
+    record {
+      board = s .board;
+      words = s .words;
+      answers = putAt answers 0 (s .answers);
+      taken = s .taken;
+      written = length (s .answers);
+      stop = s .stop;
+    }
+
+abbrev pub serveInto : Board → List ℕ → List ℕ → List ℕ → Serving
+serveInto b ws bytes answers = intoBytes answers (serveOf b ws bytes (length answers))
+
+-- one record answered: the record and the words after it, the lent bytes with its answer, and whether it was a call
+pub record OneAnswered : Type 0 where
+  pub board : Board
+  pub words : List ℕ
+  pub answers : List ℕ
+  pub good : Bool
+
+abbrev pub oneAnswered : Next → List ℕ → List ℕ → OneAnswered
+oneAnswered r ws answers = record { board = r .board; words = ws; answers = answers; good = r .good }
+
+abbrev pub answerOne : Board → List ℕ → CallRead → List ℕ → ℕ → OneAnswered
+answerOne b ws (CallRead.Good call) answers to =
+    let o : Outcome = step b ws call in
+    record { board = o .board; words = o .words; answers = putAt answers to (answerRecord (replyTo call o)); good = true }
+answerOne b ws CallRead.Record answers to =
+    record { board = b; words = ws; answers = putAt answers to (answerRecord noCall); good = false }

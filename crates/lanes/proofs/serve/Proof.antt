@@ -1,0 +1,175 @@
+-- `serve` meets its contract. The loop's invariant: what serving it all comes to is what is left to serve from here (`Rest`).
+-- The measure is the number of records that are left. Assumes nothing.
+use mathlib.Core.Path.{_≡_, sym, ap, _∙_}
+use Prim.Native.Nat.{ℕ, _+_, _*_, _-_, _≤_, _<_}
+use native.Mathlib.Nat.{sub-zero}
+use native.Mathlib.Omega.{arith}
+use borrow.Author.Needs.{needs}
+use borrow.Author.Tests.{not-true, not-false}
+use denote.Ref.{now}
+use lib.ListN.{length}
+use Rattle.records.specs.Format.{callBytes, answerBytes}
+use Rattle.lanes.specs.declared.Stop.{Stop}
+use Rattle.lanes.specs.Serve.{serveInto}
+use Rattle.lanes.proofs.Rest.{rest, lastStop, rest-whole, rest-none, turn-good, turn-bad}
+use Rattle.lanes.proofs.serve.Statement.{statement}
+use Rattle.lanes.proofs.serve.Tie as tie
+
+abbrev Inv-loop : tie.InvT-loop
+Inv-loop cells₀ calls answers₀ whole records next₀ i₀ cells answers next i =
+    (i ≤ records)
+    × (length cells ≡ length cells₀)
+    × (length answers ≡ length answers₀)
+    × (rest records 0 (lastStop calls records) next₀ cells₀ calls answers₀
+    ≡ rest (records - i) i (lastStop calls records) next cells calls answers)
+
+abbrev μ-loop : tie.MeasureT-loop
+μ-loop cells₀ calls answers₀ whole records next₀ i₀ cells answers next i = records - i
+
+least-requires : tie.Need-least-requires Inv-loop μ-loop
+least-requires c κs = search needs
+
+-- serving it all is what is left before the first record
+whole-is : (c : tie.After-least Inv-loop μ-loop) →
+    let s = c .before .before .before .before .args in
+    serveInto (s .board) (now (s .cells)) (now (s .calls)) (now (s .answers))
+    ≡ rest (c .least .result) 0 (lastStop (now (s .calls)) (c .least .result)) (s .board) (now (s .cells)) (now (s .calls))
+    (now (s .answers))
+whole-is c =
+    let s = c .before .before .before .before .args in
+    rest-whole (s .board) (now (s .cells)) (now (s .calls)) (now (s .answers))
+    ∙ ap (λ (n : ℕ). rest n 0 (lastStop (now (s .calls)) n) (s .board) (now (s .cells)) (now (s .calls)) (now (s .answers)))
+    (sym (c .least .ensures))
+
+loop-holds : tie.Need-loop-holds Inv-loop μ-loop
+loop-holds c =
+    let s = c .before .before .before .before .args in
+    let last : Stop = lastStop (now (s .calls)) (c .least .result) in (
+      search needs,
+      search needs,
+      search needs,
+      ap (λ (n : ℕ). rest n 0 last (s .board) (now (s .cells)) (now (s .calls)) (now (s .answers))) (sym (sub-zero (c .least .result))),
+    )
+
+mul-answer-at : tie.Need-mul-answer-at Inv-loop μ-loop
+mul-answer-at c = search needs
+
+mul-answer-at-2 : tie.Need-mul-answer-at-2 Inv-loop μ-loop
+mul-answer-at-2 c = search needs
+
+answer-at-requires : tie.Need-answer-at-requires Inv-loop μ-loop
+answer-at-requires c κs = search needs
+
+mul-t19 : tie.Need-mul-t19 Inv-loop μ-loop
+mul-t19 c = search needs
+
+add-t20 : tie.Need-add-t20 Inv-loop μ-loop
+add-t20 c = search needs
+
+mul-t21 : tie.Need-mul-t21 Inv-loop μ-loop
+mul-t21 c = search needs
+
+same-length : tie.Need-same-length Inv-loop μ-loop
+same-length c = search needs
+
+same-length-2 : tie.Need-same-length-2 Inv-loop μ-loop
+same-length-2 c = search needs
+
+returns : tie.Need-returns Inv-loop μ-loop
+returns c =
+    let a = c .before .before .before .before .before .before .before in
+    let l = a .before .before .before .before in
+    let s = l .before .before .before .before .before .args in
+    let n : ℕ = l .before .least .result in
+    let here : l .loop .i < n = omega arith in
+    sym (whole-is (l .before)
+    ∙ l .loop .inv .3
+    ∙ turn-bad n (l .loop .i) here (lastStop (now (s .calls)) n) (l .loop .next) (l .loop .cells) (now (s .calls)) (l .loop .answers)
+    (a .answer-at .result) (a .answer-at .last .1 .0) (a .answer-at .last .1 .1 .1 .1 .0) (a .answer-at .ensures)
+    (not-true (a .answer-at .result .good) (c .if1 .taken)))
+
+add-i : tie.Need-add-i Inv-loop μ-loop
+add-i c = search needs
+
+loop-less : tie.Need-loop-less Inv-loop μ-loop
+loop-less c = search needs
+
+loop-again : tie.Need-loop-again Inv-loop μ-loop
+loop-again c =
+    let a = c .before .before .before .before .before .before .before in
+    let l = a .before .before .before .before in
+    let s = l .before .before .before .before .before .args in
+    let n : ℕ = l .before .least .result in
+    let here : l .loop .i < n = omega arith in
+    let room : answerBytes * l .loop .i + answerBytes ≤ length (l .loop .answers) = omega arith in (
+      search needs,
+      search needs,
+      search needs,
+      l .loop .inv .3
+          ∙ turn-good n (l .loop .i) here (lastStop (now (s .calls)) n) (l .loop .next) (l .loop .cells) (now (s .calls)) (l .loop .answers)
+          (a .answer-at .result) (a .answer-at .last .1 .0) (a .answer-at .last .1 .1 .1 .1 .0) (a .answer-at .ensures)
+          room (not-false (a .answer-at .result .good) (c .if1 .left)),
+    )
+
+mul-t10 : tie.Need-mul-t10 Inv-loop μ-loop
+mul-t10 c = search needs
+
+mul-t11 : tie.Need-mul-t11 Inv-loop μ-loop
+mul-t11 c = search needs
+
+last-stop-requires : tie.Need-last-stop-requires Inv-loop μ-loop
+last-stop-requires c κs = search needs
+
+same-length-3 : tie.Need-same-length-3 Inv-loop μ-loop
+same-length-3 c = search needs
+
+same-length-4 : tie.Need-same-length-4 Inv-loop μ-loop
+same-length-4 c = search needs
+
+returns-2 : tie.Need-returns-2 Inv-loop μ-loop
+returns-2 c =
+    let l = c .before .before in
+    let s = l .before .before .before .before .before .args in
+    let n : ℕ = l .before .least .result in
+    let last : Stop = lastStop (now (s .calls)) n in
+    let done : l .loop .i ≡ n = omega arith in
+    let none : n - l .loop .i ≡ 0 = omega arith in
+    sym (whole-is (l .before)
+    ∙ l .loop .inv .3
+    ∙ (λ i. rest (none i) (done i) last (l .loop .next) (l .loop .cells) (now (s .calls)) (l .loop .answers))
+    ∙ rest-none n last (l .loop .next) (l .loop .cells) (now (s .calls)) (l .loop .answers)
+    ∙ ap (λ (stop : Stop). record {
+      board = l .loop .next;
+      words = l .loop .cells;
+      answers = l .loop .answers;
+      taken = callBytes * n;
+      written = answerBytes * n;
+      stop = stop;
+    }) (sym (c .last-stop .ensures)))
+
+pub serve-spec : {M : Type 1} → statement M
+serve-spec =
+    tie.close
+    (tie.spec
+    Inv-loop
+    μ-loop
+    least-requires
+    loop-holds
+    mul-answer-at
+    mul-answer-at-2
+    answer-at-requires
+    mul-t19
+    add-t20
+    mul-t21
+    same-length
+    same-length-2
+    returns
+    add-i
+    loop-less
+    loop-again
+    mul-t10
+    mul-t11
+    last-stop-requires
+    same-length-3
+    same-length-4
+    returns-2)
