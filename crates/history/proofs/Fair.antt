@@ -40,6 +40,7 @@ pub record FairRun (L : Ledger) (p : ℕ) (r : Run) : Type 0 where
 pub record Fair (L : Ledger) : Type 0 where
   pub runs : (p : ℕ) → p < allPlaces → FairRun L p (L .at p)
   pub ended : (i : ℕ) → i < length (L .past) → doneAt L i .ended < L .calls
+  pub order : (i j : ℕ) → i < j → j < length (L .past) → doneAt L i .ended < doneAt L j .ended
   pub seen : (j : ℕ) → j < length (L .past) → doneAt L j .seen ≤ j
   pub before : (j : ℕ) → j < length (L .past) → (i : ℕ) → i < doneAt L j .seen → doneAt L i .ended < doneAt L j .began
   pub after : (j : ℕ) → j < length (L .past) → (i : ℕ) → doneAt L j .seen ≤ i → i < length (L .past)
@@ -74,6 +75,7 @@ fresh-fair =
     record {
       runs = λ p l. nobody-fair newLedger p;
       ended = λ i h. absurd (not-suc-le-zero h);
+      order = λ i j h h′. absurd (not-suc-le-zero h′);
       seen = λ i h. absurd (not-suc-le-zero h);
       before = λ j h. absurd (not-suc-le-zero h);
       after = λ j h. absurd (not-suc-le-zero h);
@@ -114,6 +116,7 @@ module _ (L : Ledger) (f : Fair L) (p : ℕ) (r : Run) (g : FairRun L p r) where
       record {
         runs = runs′;
         ended = λ i h. let z = f .ended i h in omega (arith, z);
+        order = f .order;
         seen = f .seen;
         before = f .before;
         after = f .after;
@@ -137,6 +140,7 @@ module _ (L : Ledger) (f : Fair L) where
               told = g .told;
             };
         ended = λ i h. let z = f .ended i h in omega (arith, z);
+        order = f .order;
         seen = f .seen;
         before = f .before;
         after = f .after;
@@ -169,6 +173,7 @@ module _ (L : Ledger) (f : Fair L) where
               told = r .told;
             };
         ended = g .ended;
+        order = g .order;
         seen = g .seen;
         before = g .before;
         after = g .after;
@@ -318,6 +323,13 @@ module _ (L : Ledger) (f : Fair L) where
           ended = λ i h. cases (index i h)
               (λ z. rw (older i z) (let y = f .ended i z in omega (arith, y)))
               (λ z. rw (newest i z) (omega arith));
+          order = λ i j h h′. cases (index j h′)
+              (λ z.
+              let b : i < length (L .past) = omega arith in
+              rw (older j z) (rw (older i b) (f .order i j h z)))
+              (λ z.
+              let b : i < length (L .past) = omega arith in
+              rw (newest j z) (rw (older i b) (f .ended i b)));
           seen = λ j h. cases (index j h)
               (λ z. rw (older j z) (f .seen j z))
               (λ z. rw (newest j z) (omega (arith, f .runs p l .seen)));

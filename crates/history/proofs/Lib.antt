@@ -11,3 +11,4 @@ pub mod Steps
 pub mod Demand
 pub mod Full
 pub mod Judge
+pub mod Axioms

@@ -1,8 +1,5 @@
 -- Laws for the proofs of this crate and of those above it, and its theorems.
 pub mod Places
-pub mod Checks
-pub mod Spent
-pub mod Ends
 pub mod Tests
 pub mod Cases
 pub mod Refusals
@@ -10,3 +7,6 @@ pub mod Exact
 pub mod Keeps
 pub mod Situations
 pub mod Unique
+pub mod Checks
+pub mod Spent
+pub mod Ends

@@ -1,11 +1,11 @@
--- The search for a cell to write in, and for a prepared writer: what one place tells, and when a cell is free.
---     place-..     a scan of the places for one that passes a test
---     and-is       two tests in one
---     free-is      whether a cell is empty or spent, by four tests
---     free-inside  what the search finds is one of the cells
+-- The search for a cell to write in, and for a prepared writer.
+--     place-turn, place-end   a scan of the places for one that passes a test
+--     and-is                  two tests in one
+--     free-is                 whether a cell is empty or spent, by four tests
+--     free-inside             what the search finds is one of the cells
 -- Assumes nothing.
-use mathlib.Core.Path.{_≡_, refl, sym, ap, _∙_}
-use mathlib.Core.Bool.{Bool, true, false, not, _&&_, _||_}
+use mathlib.Core.Path.{_≡_}
+use mathlib.Core.Bool.{Bool, false, not, _&&_, _||_}
 use mathlib.Core.List.{List}
 use Prim.Native.Nat.{ℕ, _+_, _≤_, _<_}
 use native.Mathlib.Omega.{arith}
@@ -22,13 +22,10 @@ use Rattle.steps.specs.Record.{idlePlace}
 use Rattle.steps.specs.Spent.{hasPlace, keepsAt, free, reusable}
 
 module _ (q : Place → Bool) (ps : List Place) (j : ℕ) where
-  pub place-here : j < length ps → q (getD ps j idlePlace) ≡ true → hasPlace q (drop j ps) ≡ true
+  pub place-turn : j < length ps → {t : Bool} → q (getD ps j idlePlace) ≡ t
+      → hasPlace q (drop j ps) ≡ (t || hasPlace q (drop (j + 1) ps))
   unfolding hasPlace
-  place-here h e = rw (drop-next ps j idlePlace, e)
-
-  pub place-next : j < length ps → q (getD ps j idlePlace) ≡ false → hasPlace q (drop j ps) ≡ hasPlace q (drop (j + 1) ps)
-  unfolding hasPlace
-  place-next h e = rw (drop-next ps j idlePlace, e)
+  place-turn h e = rw (drop-next ps j idlePlace, e)
 
   pub place-end : length ps ≤ j → hasPlace q (drop j ps) ≡ false
   unfolding hasPlace
@@ -41,6 +38,7 @@ pub free-is : (ps : List Place) (cs : List Cell) (c : Cell) {e b o h : Bool} →
     → hasCell (newer c) cs ≡ o → hasPlace (keepsAt cs c) ps ≡ h → free ps cs c ≡ (e || (b && o && not h))
 free-is ps cs c p q r s = λ j. p j || (q j && r j && not (s j))
 
-pub free-inside : (ps : List Place) (ws : List ℕ) (i : ℕ) → reusable ps (cellsOf ws) ≡ Found.At i → i < countOf (length ws)
+pub free-inside : (ps : List Place) (ws : List ℕ) (i : ℕ) → reusable ps (cellsOf ws) ≡ Found.At i
+    → i < countOf (length ws)
 unfolding reusable
 free-inside ps ws i e = omega (arith, lowest-found (free ps (cellsOf ws)) (cellsOf ws) i e .inside, length-cells ws)

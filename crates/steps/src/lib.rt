@@ -260,7 +260,10 @@ impl Board {
         while i < Self::PLACES {
             let p = self.places[i];
             i += 1;
-            if !p.is_idle() & self.has_number(i, p.number) {
+            if p.is_idle() {
+                continue;
+            }
+            if self.has_number(i, p.number) {
                 return false;
             }
         }

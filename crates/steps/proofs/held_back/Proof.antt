@@ -1,7 +1,6 @@
 -- `held_back` meets its contract. The invariant: what is left to look at answers for the whole.
 -- Assumes nothing.
 use mathlib.Core.Path.{_≡_, refl, sym, _∙_}
-use mathlib.Core.Bool.{false, true}
 use Prim.Native.Nat.{_≤_, _-_}
 use native.Mathlib.Omega.{arith}
 use borrow.Author.Needs.{needs}
@@ -10,7 +9,7 @@ use lib.ListN.{length, drop}
 use Rattle.cells.specs.Cells.{cellsOf}
 use Rattle.steps.specs.Record.{allPlaces}
 use Rattle.steps.specs.Spent.{hasPlace, holdsBack, heldBack}
-use Rattle.steps.proofs.Spent.{place-here, place-next, place-end, and-is}
+use Rattle.steps.proofs.Spent.{place-turn, place-end, and-is}
 use Rattle.steps.proofs.held_back.Statement.{statement}
 use Rattle.steps.proofs.held_back.Tie as tie
 
@@ -43,43 +42,38 @@ loop-less c = search needs
 
 loop-again : tie.Need-loop-again Inv-loop μ-loop
 loop-again c =
-    let a = c .before .before .before .before .before .before .args in
-    let l = c .before .before .before .before .loop in
-    let h : length (a .t2) ≡ allPlaces = search needs in (
-      search needs,
-      l .inv .1
-          ∙ place-next (holdsBack (a .key) (a .number) (cellsOf (a .cells .now))) (a .t2) (l .j) (omega arith)
-          (and-is (sym (c .before .is-prepared .ensures) ∙ not-true _ (c .if1 .taken)) refl),
-    )
+    let l = c .before .before .before .before in
+    let a = l .before .before .args in
+    let h : length (a .t2) ≡ allPlaces = search needs in
+    let q = holdsBack (a .key) (a .number) (cellsOf (a .cells .now)) in
+    let e = sym (c .before .is-prepared .ensures) ∙ not-true _ (c .if1 .taken) in
+    (search needs, l .loop .inv .1 ∙ place-turn q (a .t2) (l .loop .j) (omega arith) (and-is e refl))
 
 foreign-with-requires : tie.Need-foreign-with-requires Inv-loop μ-loop
 foreign-with-requires c κs = search needs
 
 returns : tie.Need-returns Inv-loop μ-loop
 returns c =
-    let a = c .before .before .before .before .before .before .before .before .args in
-    let l = c .before .before .before .before .before .before .loop in
+    let l = c .before .before .before .before .before .before in
+    let a = l .before .before .args in
     let h : length (a .t2) ≡ allPlaces = search needs in
-    sym
-    (l .inv .1
-    ∙ place-here (holdsBack (a .key) (a .number) (cellsOf (a .cells .now))) (a .t2) (l .j) (omega arith)
-    (and-is (sym (c .before .before .before .is-prepared .ensures) ∙ not-false _ (c .before .before .if1 .left))
-    (sym (c .before .foreign-with .ensures) ∙ c .if2 .taken)))
+    let q = holdsBack (a .key) (a .number) (cellsOf (a .cells .now)) in
+    let prepared = sym (c .before .before .before .is-prepared .ensures) ∙ not-false _ (c .before .before .if1 .left) in
+    let e = and-is prepared (sym (c .before .foreign-with .ensures) ∙ c .if2 .taken) in
+    sym (l .loop .inv .1 ∙ place-turn q (a .t2) (l .loop .j) (omega arith) e)
 
 loop-less-2 : tie.Need-loop-less-2 Inv-loop μ-loop
 loop-less-2 c = search needs
 
 loop-again-2 : tie.Need-loop-again-2 Inv-loop μ-loop
 loop-again-2 c =
-    let a = c .before .before .before .before .before .before .before .before .args in
-    let l = c .before .before .before .before .before .before .loop in
-    let h : length (a .t2) ≡ allPlaces = search needs in (
-      search needs,
-      l .inv .1
-          ∙ place-next (holdsBack (a .key) (a .number) (cellsOf (a .cells .now))) (a .t2) (l .j) (omega arith)
-          (and-is (sym (c .before .before .before .is-prepared .ensures) ∙ not-false _ (c .before .before .if1 .left))
-          (sym (c .before .foreign-with .ensures) ∙ c .if2 .left)),
-    )
+    let l = c .before .before .before .before .before .before in
+    let a = l .before .before .args in
+    let h : length (a .t2) ≡ allPlaces = search needs in
+    let q = holdsBack (a .key) (a .number) (cellsOf (a .cells .now)) in
+    let prepared = sym (c .before .before .before .is-prepared .ensures) ∙ not-false _ (c .before .before .if1 .left) in
+    let e = and-is prepared (sym (c .before .foreign-with .ensures) ∙ c .if2 .left) in
+    (search needs, l .loop .inv .1 ∙ place-turn q (a .t2) (l .loop .j) (omega arith) e)
 
 returns-2 : tie.Need-returns-2 Inv-loop μ-loop
 returns-2 c =

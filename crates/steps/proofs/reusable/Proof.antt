@@ -14,18 +14,22 @@ use Rattle.cells.specs.Rules.{lowestFrom}
 use Rattle.cells.proofs.Scan.{lowest-here, lowest-next, lowest-end}
 use Rattle.steps.specs.Record.{allPlaces}
 use Rattle.steps.specs.Spent.{hasPlace, keepsAt, free, reusable}
-use Rattle.steps.proofs.Spent.{place-here, place-next, place-end, and-is, free-is}
+use Rattle.steps.proofs.Spent.{place-turn, place-end, and-is, free-is}
 use Rattle.steps.proofs.reusable.Statement.{statement}
 use Rattle.steps.proofs.reusable.Tie as tie
 
 abbrev Inv-places : tie.InvT-places
-Inv-places cells places n i at c j₀ j = (j ≤ allPlaces) × (hasPlace (keepsAt (cellsOf cells) c) places ≡ hasPlace (keepsAt (cellsOf cells) c) (drop j places))
+Inv-places cells places n i at c j₀ j =
+    (j ≤ allPlaces)
+    × (hasPlace (keepsAt (cellsOf cells) c) places ≡ hasPlace (keepsAt (cellsOf cells) c) (drop j places))
 
 abbrev μ-places : tie.MeasureT-places
 μ-places cells places n i at c j₀ j = allPlaces - j
 
 abbrev Inv-cells : tie.InvT-cells
-Inv-cells cells places n i₀ i = (i ≤ n) × (reusable places (cellsOf cells) ≡ lowestFrom i (free places (cellsOf cells)) (drop i (cellsOf cells)))
+Inv-cells cells places n i₀ i =
+    (i ≤ n)
+    × (reusable places (cellsOf cells) ≡ lowestFrom i (free places (cellsOf cells)) (drop i (cellsOf cells)))
 
 abbrev μ-cells : tie.MeasureT-cells
 μ-cells cells places n i₀ i = n - i
@@ -35,8 +39,9 @@ abbrev Looked : Type 0
 Looked = tie.After-cell-at Inv-places μ-places Inv-cells μ-cells
 
 here : (c : Looked)
-    → (let a = c .before .before .before .before .before .args in free (a .t2) (cellsOf (a .cells .now)) (c .cell-at .result) ≡ true
-    → Found.At (c .before .before .cells .i) ≡ reusable (a .t2) (cellsOf (a .cells .now)))
+    → (let a = c .before .before .before .before .before .args in
+    let cs = cellsOf (a .cells .now) in
+    free (a .t2) cs (c .cell-at .result) ≡ true → Found.At (c .before .before .cells .i) ≡ reusable (a .t2) cs)
 here c e =
     let a = c .before .before .before .before .before .args in
     let l = c .before .before .cells in
@@ -45,9 +50,10 @@ here c e =
 
 next : (c : Looked)
     → (let a = c .before .before .before .before .before .args in
+    let cs = cellsOf (a .cells .now) in
     let i = c .before .before .cells .i in
-    let f = free (a .t2) (cellsOf (a .cells .now)) in f (c .cell-at .result) ≡ false
-    → reusable (a .t2) (cellsOf (a .cells .now)) ≡ lowestFrom (i + 1) f (drop (i + 1) (cellsOf (a .cells .now))))
+    free (a .t2) cs (c .cell-at .result) ≡ false
+    → reusable (a .t2) cs ≡ lowestFrom (i + 1) (free (a .t2) cs) (drop (i + 1) cs))
 next c e =
     let a = c .before .before .before .before .before .args in
     let l = c .before .before .cells in
@@ -59,12 +65,14 @@ abbrev Old : Type 0
 Old = tie.Else3 Inv-places μ-places Inv-cells μ-cells
 
 kept-or-free : (c : Old) (h : Bool)
-    → (let a = c .before .before .before .before .before .before .before .before .before .before .before .args in
-    let r = c .before .before .before .before .before .before .cell-at .result in hasPlace (keepsAt (cellsOf (a .cells .now)) r) (a .t2) ≡ h
-    → free (a .t2) (cellsOf (a .cells .now)) r ≡ not h)
+    → (let k = c .before .before .before .before .before .before in
+    let a = k .before .before .before .before .before .args in
+    let cs = cellsOf (a .cells .now) in
+    hasPlace (keepsAt cs (k .cell-at .result)) (a .t2) ≡ h → free (a .t2) cs (k .cell-at .result) ≡ not h)
 kept-or-free c h e =
-    let a = c .before .before .before .before .before .before .before .before .before .before .before .args in
-    free-is (a .t2) (cellsOf (a .cells .now)) (c .before .before .before .before .before .before .cell-at .result)
+    let k = c .before .before .before .before .before .before in
+    let a = k .before .before .before .before .before .args in
+    free-is (a .t2) (cellsOf (a .cells .now)) (k .cell-at .result)
     (sym (c .before .before .before .before .before .«empty» .ensures) ∙ c .before .before .before .before .if1 .left)
     (sym (c .before .before .before .committed .ensures) ∙ not-false _ (c .before .before .if2 .left))
     (sym (c .before .outdated .ensures) ∙ not-false _ (c .if3 .left))
@@ -88,9 +96,10 @@ empty-requires c κs = search needs
 
 returns : tie.Need-returns Inv-places μ-places Inv-cells μ-cells
 returns c =
-    let a = c .before .before .before .before .before .before .before .args in
-    here (c .before .before)
-    (free-is (a .t2) (cellsOf (a .cells .now)) (c .before .before .cell-at .result) (sym (c .before .«empty» .ensures) ∙ c .if1 .taken) refl refl refl)
+    let k = c .before .before in
+    let a = k .before .before .before .before .before .args in
+    let e = sym (c .before .«empty» .ensures) ∙ c .if1 .taken in
+    here k (free-is (a .t2) (cellsOf (a .cells .now)) (k .cell-at .result) e refl refl refl)
 
 committed-requires : tie.Need-committed-requires Inv-places μ-places Inv-cells μ-cells
 committed-requires c κs = search needs
@@ -100,13 +109,11 @@ cells-less c = search needs
 
 cells-again : tie.Need-cells-again Inv-places μ-places Inv-cells μ-cells
 cells-again c =
-    let a = c .before .before .before .before .before .before .before .before .before .args in (
-      search needs,
-      next (c .before .before .before .before)
-          (free-is (a .t2) (cellsOf (a .cells .now)) (c .before .before .before .before .cell-at .result)
-          (sym (c .before .before .before .«empty» .ensures) ∙ c .before .before .if1 .left)
-          (sym (c .before .committed .ensures) ∙ not-true _ (c .if2 .taken)) refl refl),
-    )
+    let k = c .before .before .before .before in
+    let a = k .before .before .before .before .before .args in
+    let e = sym (c .before .before .before .«empty» .ensures) ∙ c .before .before .if1 .left in
+    let f = sym (c .before .committed .ensures) ∙ not-true _ (c .if2 .taken) in
+    (search needs, next k (free-is (a .t2) (cellsOf (a .cells .now)) (k .cell-at .result) e f refl refl))
 
 outdated-requires : tie.Need-outdated-requires Inv-places μ-places Inv-cells μ-cells
 outdated-requires c κs = search needs
@@ -116,14 +123,12 @@ cells-less-2 c = search needs
 
 cells-again-2 : tie.Need-cells-again-2 Inv-places μ-places Inv-cells μ-cells
 cells-again-2 c =
-    let a = c .before .before .before .before .before .before .before .before .before .before .before .args in (
-      search needs,
-      next (c .before .before .before .before .before .before)
-          (free-is (a .t2) (cellsOf (a .cells .now)) (c .before .before .before .before .before .before .cell-at .result)
-          (sym (c .before .before .before .before .before .«empty» .ensures) ∙ c .before .before .before .before .if1 .left)
-          (sym (c .before .before .before .committed .ensures) ∙ not-false _ (c .before .before .if2 .left))
-          (sym (c .before .outdated .ensures) ∙ not-true _ (c .if3 .taken)) refl),
-    )
+    let k = c .before .before .before .before .before .before in
+    let a = k .before .before .before .before .before .args in
+    let e = sym (c .before .before .before .before .before .«empty» .ensures) ∙ c .before .before .before .before .if1 .left in
+    let f = sym (c .before .before .before .committed .ensures) ∙ not-false _ (c .before .before .if2 .left) in
+    let g = sym (c .before .outdated .ensures) ∙ not-true _ (c .if3 .taken) in
+    (search needs, next k (free-is (a .t2) (cellsOf (a .cells .now)) (k .cell-at .result) e f g refl))
 
 places-holds : tie.Need-places-holds Inv-places μ-places Inv-cells μ-cells
 places-holds c = (search needs, refl)
@@ -145,14 +150,13 @@ places-less c = search needs
 
 places-again : tie.Need-places-again Inv-places μ-places Inv-cells μ-cells
 places-again c =
-    let a = c .before .before .before .before .before .before .before .before .before .before .before .before .before .before .before .before .args in
-    let m = c .before .before .before .before .places in
-    let h : length (a .t2) ≡ allPlaces = search needs in (
-      search needs,
-      m .inv .1
-          ∙ place-next (keepsAt (cellsOf (a .cells .now)) (c .before .before .before .before .before .before .before .before .before .before .before .cell-at .result)) (a .t2) (m .j) (omega arith)
-          (and-is (sym (c .before .is-open .ensures) ∙ not-true _ (c .if4 .taken)) refl),
-    )
+    let m = c .before .before .before .before in
+    let k = m .before .before .before .before .before .before .before in
+    let a = k .before .before .before .before .before .args in
+    let h : length (a .t2) ≡ allPlaces = search needs in
+    let q = keepsAt (cellsOf (a .cells .now)) (k .cell-at .result) in
+    let e = sym (c .before .is-open .ensures) ∙ not-true _ (c .if4 .taken) in
+    (search needs, m .places .inv .1 ∙ place-turn q (a .t2) (m .places .j) (omega arith) (and-is e refl))
 
 kept-requires : tie.Need-kept-requires Inv-places μ-places Inv-cells μ-cells
 kept-requires c κs = search needs
@@ -162,41 +166,38 @@ cells-less-3 c = search needs
 
 cells-again-3 : tie.Need-cells-again-3 Inv-places μ-places Inv-cells μ-cells
 cells-again-3 c =
-    let a = c .before .before .before .before .before .before .before .before .before .before .before .before .before .before .before .before .before .before .args in
-    let m = c .before .before .before .before .before .before .places in
-    let h : length (a .t2) ≡ allPlaces = search needs in (
-      search needs,
-      next (c .before .before .before .before .before .before .before .before .before .before .before .before .before)
-          (kept-or-free (c .before .before .before .before .before .before .before) true
-          (m .inv .1
-          ∙ place-here (keepsAt (cellsOf (a .cells .now)) (c .before .before .before .before .before .before .before .before .before .before .before .before .before .cell-at .result)) (a .t2) (m .j) (omega arith)
-          (and-is (sym (c .before .before .before .is-open .ensures) ∙ not-false _ (c .before .before .if4 .left))
-          (sym (c .before .kept .ensures) ∙ c .if5 .taken)))),
-    )
+    let m = c .before .before .before .before .before .before in
+    let k = m .before .before .before .before .before .before .before in
+    let a = k .before .before .before .before .before .args in
+    let h : length (a .t2) ≡ allPlaces = search needs in
+    let q = keepsAt (cellsOf (a .cells .now)) (k .cell-at .result) in
+    let is-open = sym (c .before .before .before .is-open .ensures) ∙ not-false _ (c .before .before .if4 .left) in
+    let e = and-is is-open (sym (c .before .kept .ensures) ∙ c .if5 .taken) in
+    let f = m .places .inv .1 ∙ place-turn q (a .t2) (m .places .j) (omega arith) e in
+    (search needs, next k (kept-or-free (m .before) true f))
 
 places-less-2 : tie.Need-places-less-2 Inv-places μ-places Inv-cells μ-cells
 places-less-2 c = search needs
 
 places-again-2 : tie.Need-places-again-2 Inv-places μ-places Inv-cells μ-cells
 places-again-2 c =
-    let a = c .before .before .before .before .before .before .before .before .before .before .before .before .before .before .before .before .before .before .args in
-    let m = c .before .before .before .before .before .before .places in
-    let h : length (a .t2) ≡ allPlaces = search needs in (
-      search needs,
-      m .inv .1
-          ∙ place-next (keepsAt (cellsOf (a .cells .now)) (c .before .before .before .before .before .before .before .before .before .before .before .before .before .cell-at .result)) (a .t2) (m .j) (omega arith)
-          (and-is (sym (c .before .before .before .is-open .ensures) ∙ not-false _ (c .before .before .if4 .left))
-          (sym (c .before .kept .ensures) ∙ c .if5 .left)),
-    )
+    let m = c .before .before .before .before .before .before in
+    let k = m .before .before .before .before .before .before .before in
+    let a = k .before .before .before .before .before .args in
+    let h : length (a .t2) ≡ allPlaces = search needs in
+    let q = keepsAt (cellsOf (a .cells .now)) (k .cell-at .result) in
+    let is-open = sym (c .before .before .before .is-open .ensures) ∙ not-false _ (c .before .before .if4 .left) in
+    let e = and-is is-open (sym (c .before .kept .ensures) ∙ c .if5 .left) in
+    (search needs, m .places .inv .1 ∙ place-turn q (a .t2) (m .places .j) (omega arith) e)
 
 returns-2 : tie.Need-returns-2 Inv-places μ-places Inv-cells μ-cells
 returns-2 c =
-    let a = c .before .before .before .before .before .before .before .before .before .before .before .before .before .args in
-    let m = c .before .places in
+    let m = c .before in
+    let k = m .before .before .before .before .before .before .before in
+    let a = k .before .before .before .before .before .args in
     let h : length (a .t2) ≡ allPlaces = search needs in
-    here (c .before .before .before .before .before .before .before .before)
-    (kept-or-free (c .before .before) false
-    (m .inv .1 ∙ place-end (keepsAt (cellsOf (a .cells .now)) (c .before .before .before .before .before .before .before .before .cell-at .result)) (a .t2) (m .j) (omega arith)))
+    let q = keepsAt (cellsOf (a .cells .now)) (k .cell-at .result) in
+    here k (kept-or-free (m .before) false (m .places .inv .1 ∙ place-end q (a .t2) (m .places .j) (omega arith)))
 
 returns-3 : tie.Need-returns-3 Inv-places μ-places Inv-cells μ-cells
 returns-3 c =

@@ -1,19 +1,26 @@
 -- `Board::commit` meets its contract.
 -- Assumes nothing.
-use Prim.Native.Nat.{_+_}
+use Prim.Native.Nat.{ℕ, _+_}
 use native.Mathlib.Omega.{arith}
 use borrow.Author.Needs.{needs}
 use lib.ListN.{set}
 use Rattle.records.specs.declared.Call.{Call}
 use Rattle.records.specs.declared.Answer.{Answer}
+use Rattle.steps.specs.declared.Board.{Board}
+use Rattle.steps.specs.declared.Place.{Place}
 use Rattle.steps.specs.Step.{answered}
 use Rattle.steps.proofs.Checks.{Passed, passed, refused}
 use Rattle.steps.proofs.Board.commit.Statement.{statement}
 use Rattle.steps.proofs.Board.commit.Tie as tie
 
 -- no check has refused
-go : (c : tie.Else1) → (let a = c .before .before .before .before .args in Passed (a .t1) (a .cells .now) (Call.Commit (a .place)))
+go : (c : tie.Else1)
+    → (let a = c .before .before .before .before .args in Passed (a .t1) (a .cells .now) (Call.Commit (a .place)))
 go c = passed _ _ _ (c .before .before .check .ensures) (c .before .number .ensures) (c .if1 .left)
+
+-- the record after it
+abbrev after : Board → ℕ → Place → Board
+after b place p = record { places = set (b .places) place p; starts = b .starts; commits = b .commits + 1 }
 
 check-requires : tie.Need-check-requires
 check-requires c κs = search needs
@@ -26,9 +33,10 @@ with-requires c κs = search needs
 
 returns : tie.Need-returns
 returns c =
-    let a = c .before .before .before .before .before .args in
-    refused (a .t1) (a .cells .now) (Call.Commit (a .place))
-    (c .before .before .before .check .ensures) (c .before .before .number .ensures) (c .before .if1 .taken) (c .with .ensures)
+    let k = c .before .before .before in
+    let a = k .before .before .args in
+    refused (a .t1) (a .cells .now) (Call.Commit (a .place)) (k .check .ensures) (c .before .before .number .ensures)
+    (c .before .if1 .taken) (c .with .ensures)
 
 mul-p : tie.Need-mul-p
 mul-p c = search needs
@@ -59,9 +67,12 @@ same-length c = search needs
 
 returns-2 : tie.Need-returns-2
 returns-2 c =
-    let a = c .before .before .before .before .before .before .before .before .before .before .before .args in
-    go (c .before .before .before .before .before .before .before) .is (c .with2 .ensures)
-    (λ j. answered (Answer.Ok (a .t1 .commits + 1)) (record { places = set (a .t1 .places) (a .place) (c .before .idle .ensures j); starts = a .t1 .starts; commits = a .t1 .commits + 1 }) (c .before .before .before .before .stamp .ensures j))
+    let k = c .before .before .before .before .before .before .before in
+    let a = k .before .before .before .before .args in
+    let words = c .before .before .before .before .stamp .ensures in
+    let place = c .before .idle .ensures in
+    go k .is (c .with2 .ensures)
+    (λ j. answered (Answer.Ok (a .t1 .commits + 1)) (after (a .t1) (a .place) (place j)) (words j))
 
 pub commit-spec : {M : Type 1} → statement M
 commit-spec =

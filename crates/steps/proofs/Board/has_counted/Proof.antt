@@ -1,13 +1,13 @@
 -- `Board::has_counted` meets its contract. The invariant: what is left to look at answers for the whole.
 -- Assumes nothing.
 use mathlib.Core.Path.{_≡_, refl, sym, ap, _∙_}
-use Prim.Native.Nat.{_<_, _-_}
+use Prim.Native.Nat.{_-_}
 use native.Mathlib.Omega.{arith}
 use borrow.Author.Needs.{needs}
 use lib.ListN.{length, drop}
 use Rattle.steps.specs.Record.{allPlaces}
 use Rattle.steps.specs.Shape.{held, counted, each}
-use Rattle.steps.proofs.Places.{long, each-here, each-next, held-end}
+use Rattle.steps.proofs.Places.{long, each-turn, held-end}
 use Rattle.steps.proofs.Board.has_counted.Statement.{statement}
 use Rattle.steps.proofs.Board.has_counted.Tie as tie
 
@@ -39,31 +39,29 @@ is-counted-requires c κs = search needs
 
 returns : tie.Need-returns Inv-loop μ-loop
 returns c =
-    let b = c .before .before .before .before .before .before .args .t1 in
-    let l = c .before .before .before .before .before .loop in
+    let l = c .before .before .before .before .before in
+    let b = l .before .args .t1 in
     let h : length (b .places) ≡ allPlaces = search long in
-    sym
-    (l .inv
-    ∙ each-here (b .places) (l .i) (omega arith) (counted (b .starts) (b .commits))
-    (rw (c .before .before .is-idle .ensures, c .before .is-counted .ensures) at (c .if1 .taken)))
+    let e = rw (c .before .before .is-idle .ensures, c .before .is-counted .ensures) at (c .if1 .taken) in
+    sym (l .loop .inv ∙ each-turn (b .places) (l .loop .i) (omega arith) (counted (b .starts) (b .commits)) e)
 
 loop-less : tie.Need-loop-less Inv-loop μ-loop
 loop-less c = search needs
 
 loop-again : tie.Need-loop-again Inv-loop μ-loop
 loop-again c =
-    let b = c .before .before .before .before .before .before .args .t1 in
-    let l = c .before .before .before .before .before .loop in
+    let l = c .before .before .before .before .before in
+    let b = l .before .args .t1 in
     let h : length (b .places) ≡ allPlaces = search long in
-    l .inv
-    ∙ each-next (b .places) (l .i) (omega arith) (counted (b .starts) (b .commits))
-    (rw (c .before .before .is-idle .ensures, c .before .is-counted .ensures) at (c .if1 .left))
+    let e = rw (c .before .before .is-idle .ensures, c .before .is-counted .ensures) at (c .if1 .left) in
+    l .loop .inv ∙ each-turn (b .places) (l .loop .i) (omega arith) (counted (b .starts) (b .commits)) e
 
 returns-2 : tie.Need-returns-2 Inv-loop μ-loop
 returns-2 c =
     let b = c .before .before .args .t1 in
     let h : length (b .places) ≡ allPlaces = search long in
-    sym (c .before .loop .inv ∙ ap (each (counted (b .starts) (b .commits))) (held-end (b .places) (c .before .loop .i) (omega arith)))
+    let e = held-end (b .places) (c .before .loop .i) (omega arith) in
+    sym (c .before .loop .inv ∙ ap (each (counted (b .starts) (b .commits))) e)
 
 pub has-counted-spec : {M : Type 1} → statement M
 has-counted-spec =

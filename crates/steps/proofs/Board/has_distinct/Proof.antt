@@ -1,13 +1,13 @@
 -- `Board::has_distinct` meets its contract. The invariant: what is left to look at answers for the whole.
 -- Assumes nothing.
 use mathlib.Core.Path.{_≡_, refl, sym, ap, _∙_}
-use Prim.Native.Nat.{_<_, _-_}
+use Prim.Native.Nat.{_-_}
 use native.Mathlib.Omega.{arith}
 use borrow.Author.Needs.{needs}
 use lib.ListN.{length, drop}
 use Rattle.steps.specs.Record.{allPlaces}
 use Rattle.steps.specs.Shape.{held, distinct}
-use Rattle.steps.proofs.Places.{long, distinct-here, distinct-next, held-end}
+use Rattle.steps.proofs.Places.{long, distinct-turn, held-end}
 use Rattle.steps.proofs.Board.has_distinct.Statement.{statement}
 use Rattle.steps.proofs.Board.has_distinct.Tie as tie
 
@@ -32,30 +32,40 @@ add-i c = search needs
 is-idle-requires : tie.Need-is-idle-requires Inv-loop μ-loop
 is-idle-requires c κs = search needs
 
-has-number-requires : tie.Need-has-number-requires Inv-loop μ-loop
-has-number-requires c κs = search needs
-
-returns : tie.Need-returns Inv-loop μ-loop
-returns c =
-    let ps = c .before .before .before .before .before .before .args .t1 .places in
-    let l = c .before .before .before .before .before .loop in
-    let h : length ps ≡ allPlaces = search long in
-    sym
-    (l .inv
-    ∙ distinct-here ps (l .i) (omega arith)
-    (rw (c .before .before .is-idle .ensures, c .before .has-number .ensures) at (c .if1 .taken)))
-
 loop-less : tie.Need-loop-less Inv-loop μ-loop
 loop-less c = search needs
 
 loop-again : tie.Need-loop-again Inv-loop μ-loop
 loop-again c =
-    let ps = c .before .before .before .before .before .before .args .t1 .places in
-    let l = c .before .before .before .before .before .loop in
+    let l = c .before .before .before .before in
+    let ps = l .before .args .t1 .places in
     let h : length ps ≡ allPlaces = search long in
-    l .inv
-    ∙ distinct-next ps (l .i) (omega arith)
-    (rw (c .before .before .is-idle .ensures, c .before .has-number .ensures) at (c .if1 .left))
+    l .loop .inv
+    ∙ distinct-turn ps (l .loop .i) (omega arith) (sym (c .before .is-idle .ensures) ∙ c .if1 .taken) refl
+
+has-number-requires : tie.Need-has-number-requires Inv-loop μ-loop
+has-number-requires c κs = search needs
+
+returns : tie.Need-returns Inv-loop μ-loop
+returns c =
+    let l = c .before .before .before .before .before .before in
+    let ps = l .before .args .t1 .places in
+    let h : length ps ≡ allPlaces = search long in
+    let idle = sym (c .before .before .before .is-idle .ensures) ∙ c .before .before .if1 .left in
+    let same = sym (c .before .has-number .ensures) ∙ c .if2 .taken in
+    sym (l .loop .inv ∙ distinct-turn ps (l .loop .i) (omega arith) idle same)
+
+loop-less-2 : tie.Need-loop-less-2 Inv-loop μ-loop
+loop-less-2 c = search needs
+
+loop-again-2 : tie.Need-loop-again-2 Inv-loop μ-loop
+loop-again-2 c =
+    let l = c .before .before .before .before .before .before in
+    let ps = l .before .args .t1 .places in
+    let h : length ps ≡ allPlaces = search long in
+    let idle = sym (c .before .before .before .is-idle .ensures) ∙ c .before .before .if1 .left in
+    let same = sym (c .before .has-number .ensures) ∙ c .if2 .left in
+    l .loop .inv ∙ distinct-turn ps (l .loop .i) (omega arith) idle same
 
 returns-2 : tie.Need-returns-2 Inv-loop μ-loop
 returns-2 c =
@@ -74,8 +84,10 @@ has-distinct-spec =
     element-copy-out-p
     add-i
     is-idle-requires
-    has-number-requires
-    returns
     loop-less
     loop-again
+    has-number-requires
+    returns
+    loop-less-2
+    loop-again-2
     returns-2)

@@ -1,12 +1,12 @@
 -- `Board::held_count` meets its contract. The invariant: what is counted, and what is left to count, is the whole.
 -- Assumes nothing.
 use mathlib.Core.Path.{_≡_, sym, ap, _∙_}
-use mathlib.Core.Bool.{Bool, not, cond}
-use Prim.Native.Nat.{_≤_, _<_, _-_, _+_}
+use Prim.Native.Nat.{_+_, _-_, _≤_}
 use native.Mathlib.Omega.{arith}
 use borrow.Author.Needs.{needs}
-use lib.ListN.{length, getD, drop}
-use Rattle.steps.specs.Record.{allPlaces, idlePlace, isIdle}
+use borrow.Author.Tests.{not-true, not-false}
+use lib.ListN.{length, drop}
+use Rattle.steps.specs.Record.{allPlaces}
 use Rattle.steps.specs.Shape.{held}
 use Rattle.steps.proofs.Places.{long, count-turn, held-end}
 use Rattle.steps.proofs.Board.held_count.Statement.{statement}
@@ -41,22 +41,20 @@ loop-less c = search needs
 
 loop-again : tie.Need-loop-again Inv-loop μ-loop
 loop-again c =
-    let ps = c .before .before .before .before .before .args .t1 .places in
-    let i = c .before .before .before .before .loop .i in
+    let l = c .before .before .before .before in
+    let ps = l .before .args .t1 .places in
     let h : length ps ≡ allPlaces = search long in
-    let l : i < length ps = omega arith in
-    omega (arith, count-turn ps i l ∙ ap (λ (t : Bool). cond t 1 0 + length (held (drop (i + 1) ps))) (rw (c .before .is-idle .ensures) at (c .if1 .taken)))
+    omega (arith, count-turn ps (l .loop .i) (omega arith) (sym (c .before .is-idle .ensures) ∙ not-true _ (c .if1 .taken)))
 
 loop-less-2 : tie.Need-loop-less-2 Inv-loop μ-loop
 loop-less-2 c = search needs
 
 loop-again-2 : tie.Need-loop-again-2 Inv-loop μ-loop
 loop-again-2 c =
-    let ps = c .before .before .before .before .before .args .t1 .places in
-    let i = c .before .before .before .before .loop .i in
+    let l = c .before .before .before .before in
+    let ps = l .before .args .t1 .places in
     let h : length ps ≡ allPlaces = search long in
-    let l : i < length ps = omega arith in
-    omega (arith, count-turn ps i l ∙ ap (λ (t : Bool). cond t 1 0 + length (held (drop (i + 1) ps))) (rw (c .before .is-idle .ensures) at (c .if1 .left)))
+    omega (arith, count-turn ps (l .loop .i) (omega arith) (sym (c .before .is-idle .ensures) ∙ not-false _ (c .if1 .left)))
 
 returns : tie.Need-returns Inv-loop μ-loop
 returns c =

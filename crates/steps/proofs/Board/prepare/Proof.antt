@@ -1,17 +1,16 @@
 -- `Board::prepare` meets its contract.
 -- Assumes nothing.
-use mathlib.Core.Path.{ap}
 use borrow.Author.Needs.{needs}
 use Rattle.records.specs.declared.Call.{Call}
 use Rattle.records.specs.declared.Answer.{Answer}
-use Rattle.steps.specs.declared.Place.{Place}
 use Rattle.steps.specs.Step.{answered, withPlace}
 use Rattle.steps.proofs.Checks.{Passed, passed, refused}
 use Rattle.steps.proofs.Board.prepare.Statement.{statement}
 use Rattle.steps.proofs.Board.prepare.Tie as tie
 
 -- no check has refused
-go : (c : tie.Else1) → (let a = c .before .before .before .before .args in Passed (a .t1) (a .cells .now) (Call.Prepare (a .place)))
+go : (c : tie.Else1)
+    → (let a = c .before .before .before .before .args in Passed (a .t1) (a .cells .now) (Call.Prepare (a .place)))
 go c = passed _ _ _ (c .before .before .check .ensures) (c .before .number .ensures) (c .if1 .left)
 
 check-requires : tie.Need-check-requires
@@ -25,9 +24,10 @@ with-requires c κs = search needs
 
 returns : tie.Need-returns
 returns c =
-    let a = c .before .before .before .before .before .args in
-    refused (a .t1) (a .cells .now) (Call.Prepare (a .place))
-    (c .before .before .before .check .ensures) (c .before .before .number .ensures) (c .before .if1 .taken) (c .with .ensures)
+    let k = c .before .before .before in
+    let a = k .before .before .args in
+    refused (a .t1) (a .cells .now) (Call.Prepare (a .place)) (k .check .ensures) (c .before .before .number .ensures)
+    (c .before .if1 .taken) (c .with .ensures)
 
 mul-p : tie.Need-mul-p
 mul-p c = search needs
@@ -49,9 +49,10 @@ with-requires-2 c κs = search needs
 
 returns-2 : tie.Need-returns-2
 returns-2 c =
-    let a = c .before .before .before .before .before .before .before .args in
-    go (c .before .before .before) .is (c .with2 .ensures)
-    (ap (λ (p : Place). answered (Answer.Ok 0) (withPlace (a .t1) (a .place) p) (a .cells .now)) (c .before .in-state .ensures))
+    let k = c .before .before .before in
+    let a = k .before .before .before .before .args in
+    let place = c .before .in-state .ensures in
+    go k .is (c .with2 .ensures) (λ j. answered (Answer.Ok 0) (withPlace (a .t1) (a .place) (place j)) (a .cells .now))
 
 pub prepare-spec : {M : Type 1} → statement M
 prepare-spec =

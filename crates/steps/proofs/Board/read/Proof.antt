@@ -14,16 +14,19 @@ use Rattle.steps.proofs.Board.read.Statement.{statement}
 use Rattle.steps.proofs.Board.read.Tie as tie
 
 -- no check has refused
-go : (c : tie.Else1) → (let a = c .before .before .before .before .args in Passed (a .t1) (a .cells .now) (Call.Read (a .place) (a .key)))
+go : (c : tie.Else1)
+    → (let a = c .before .before .before .before .args in Passed (a .t1) (a .cells .now) (Call.Read (a .place) (a .key)))
 go c = passed _ _ _ (c .before .before .check .ensures) (c .before .number .ensures) (c .if1 .left)
 
 -- an own cell was found, or none
 found : (c : tie.After-known-told)
-    → (let a = c .before .before .before .before .before .before .before .before .before .args in ownAt (a .key) (numberAt (a .t1) (a .place)) (cellsOf (a .cells .now)) ≡ Found.At (c .before .mine .given .0 .0))
+    → (let a = c .before .before .before .before .before .before .before .before .before .args in
+    ownAt (a .key) (numberAt (a .t1) (a .place)) (cellsOf (a .cells .now)) ≡ Found.At (c .before .mine .given .0 .0))
 found c = sym (c .before .before .before .own-at .ensures) ∙ c .before .mine .given .1
 
 none : (c : tie.After-enum-told)
-    → (let a = c .before .before .before .before .before .before .before .before .args in ownAt (a .key) (numberAt (a .t1) (a .place)) (cellsOf (a .cells .now)) ≡ Found.Nothing)
+    → (let a = c .before .before .before .before .before .before .before .before .args in
+    ownAt (a .key) (numberAt (a .t1) (a .place)) (cellsOf (a .cells .now)) ≡ Found.Nothing)
 none c = sym (c .before .before .own-at .ensures) ∙ c .enum-told .given .1
 
 check-requires : tie.Need-check-requires
@@ -37,9 +40,10 @@ with-requires c κs = search needs
 
 returns : tie.Need-returns
 returns c =
-    let a = c .before .before .before .before .before .args in
-    refused (a .t1) (a .cells .now) (Call.Read (a .place) (a .key))
-    (c .before .before .before .check .ensures) (c .before .before .number .ensures) (c .before .if1 .taken) (c .with .ensures)
+    let k = c .before .before .before in
+    let a = k .before .before .args in
+    refused (a .t1) (a .cells .now) (Call.Read (a .place) (a .key)) (k .check .ensures) (c .before .before .number .ensures)
+    (c .before .if1 .taken) (c .with .ensures)
 
 mul-p : tie.Need-mul-p
 mul-p c = search needs
@@ -63,9 +67,11 @@ with-requires-2 c κs = search needs
 
 returns-2 : tie.Need-returns-2
 returns-2 c =
-    let a = c .before .before .before .before .before .before .before .before .before .before .before .args in
-    go (c .before .before .before .before .before .before .before) .is (c .with2 .ensures)
-    (read-own (a .t1) (a .cells .now) (a .place) (a .key) (found (c .before .before)) (c .before .cell-at .ensures))
+    let f = c .before .before in
+    let k = f .before .before .before .before .before in
+    let a = k .before .before .before .before .args in
+    go k .is (c .with2 .ensures)
+    (read-own (a .t1) (a .cells .now) (a .place) (a .key) (found f) (c .before .cell-at .ensures))
 
 enum-told : tie.Need-enum-told
 enum-told c = search needs
@@ -78,10 +84,11 @@ with-requires-3 c κs = search needs
 
 returns-3 : tie.Need-returns-3
 returns-3 c =
-    let a = c .before .before .before .before .before .before .before .before .before .before .before .before .args in
-    go (c .before .before .before .before .before .before .before .before) .is (c .with3 .ensures)
-    (read-held (a .t1) (a .cells .now) (a .place) (a .key) (none (c .before .before .before .before))
-    (sym (c .before .before .held-back .ensures) ∙ c .before .if2 .taken))
+    let n = c .before .before .before .before in
+    let k = n .before .before .before .before in
+    let a = k .before .before .before .before .args in
+    let held = sym (c .before .before .held-back .ensures) ∙ c .before .if2 .taken in
+    go k .is (c .with3 .ensures) (read-held (a .t1) (a .cells .now) (a .place) (a .key) (none n) held)
 
 newest-seen-requires : tie.Need-newest-seen-requires
 newest-seen-requires c κs = search needs
@@ -91,10 +98,12 @@ with-requires-4 c κs = search needs
 
 returns-4 : tie.Need-returns-4
 returns-4 c =
-    let a = c .before .before .before .before .before .before .before .before .before .before .before .before .before .args in
-    go (c .before .before .before .before .before .before .before .before .before) .is (c .with4 .ensures)
-    (read-seen (a .t1) (a .cells .now) (a .place) (a .key) (none (c .before .before .before .before .before))
-    (sym (c .before .before .before .held-back .ensures) ∙ c .before .before .if2 .left) (c .before .newest-seen .ensures))
+    let n = c .before .before .before .before .before in
+    let k = n .before .before .before .before in
+    let a = k .before .before .before .before .args in
+    let held = sym (c .before .before .before .held-back .ensures) ∙ c .before .before .if2 .left in
+    go k .is (c .with4 .ensures)
+    (read-seen (a .t1) (a .cells .now) (a .place) (a .key) (none n) held (c .before .newest-seen .ensures))
 
 pub read-spec : {M : Type 1} → statement M
 read-spec =

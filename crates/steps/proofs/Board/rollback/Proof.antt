@@ -1,7 +1,6 @@
 -- `Board::rollback` meets its contract.
 -- Assumes nothing.
 use borrow.Author.Needs.{needs}
-use lib.ListN.{set}
 use Rattle.records.specs.declared.Call.{Call}
 use Rattle.records.specs.declared.Answer.{Answer}
 use Rattle.steps.specs.Step.{answered, withPlace}
@@ -10,7 +9,8 @@ use Rattle.steps.proofs.Board.rollback.Statement.{statement}
 use Rattle.steps.proofs.Board.rollback.Tie as tie
 
 -- no check has refused
-go : (c : tie.Else1) → (let a = c .before .before .before .before .args in Passed (a .t1) (a .cells .now) (Call.Rollback (a .place)))
+go : (c : tie.Else1)
+    → (let a = c .before .before .before .before .args in Passed (a .t1) (a .cells .now) (Call.Rollback (a .place)))
 go c = passed _ _ _ (c .before .before .check .ensures) (c .before .number .ensures) (c .if1 .left)
 
 check-requires : tie.Need-check-requires
@@ -24,9 +24,10 @@ with-requires c κs = search needs
 
 returns : tie.Need-returns
 returns c =
-    let a = c .before .before .before .before .before .args in
-    refused (a .t1) (a .cells .now) (Call.Rollback (a .place))
-    (c .before .before .before .check .ensures) (c .before .before .number .ensures) (c .before .if1 .taken) (c .with .ensures)
+    let k = c .before .before .before in
+    let a = k .before .before .args in
+    refused (a .t1) (a .cells .now) (Call.Rollback (a .place)) (k .check .ensures) (c .before .before .number .ensures)
+    (c .before .if1 .taken) (c .with .ensures)
 
 mul-p : tie.Need-mul-p
 mul-p c = search needs
@@ -54,9 +55,11 @@ same-length c = search needs
 
 returns-2 : tie.Need-returns-2
 returns-2 c =
-    let a = c .before .before .before .before .before .before .before .before .before .before .before .args in
-    go (c .before .before .before .before .before .before .before) .is (c .with2 .ensures)
-    (λ j. answered (Answer.Ok 0) (withPlace (a .t1) (a .place) (c .before .idle .ensures j)) (c .before .before .before .before .wipe .ensures j))
+    let k = c .before .before .before .before .before .before .before in
+    let a = k .before .before .before .before .args in
+    let words = c .before .before .before .before .wipe .ensures in
+    let place = c .before .idle .ensures in
+    go k .is (c .with2 .ensures) (λ j. answered (Answer.Ok 0) (withPlace (a .t1) (a .place) (place j)) (words j))
 
 pub rollback-spec : {M : Type 1} → statement M
 rollback-spec =

@@ -9,7 +9,8 @@ use Rattle.steps.proofs.Board.start.Statement.{statement}
 use Rattle.steps.proofs.Board.start.Tie as tie
 
 -- no check has refused
-go : (c : tie.Else1) → (let a = c .before .before .before .before .args in Passed (a .t1) (a .cells .now) (Call.Start (a .place)))
+go : (c : tie.Else1)
+    → (let a = c .before .before .before .before .args in Passed (a .t1) (a .cells .now) (Call.Start (a .place)))
 go c = passed _ _ _ (c .before .before .check .ensures) (c .before .number .ensures) (c .if1 .left)
 
 check-requires : tie.Need-check-requires
@@ -23,9 +24,10 @@ with-requires c κs = search needs
 
 returns : tie.Need-returns
 returns c =
-    let a = c .before .before .before .before .before .args in
-    refused (a .t1) (a .cells .now) (Call.Start (a .place))
-    (c .before .before .before .check .ensures) (c .before .before .number .ensures) (c .before .if1 .taken) (c .with .ensures)
+    let k = c .before .before .before in
+    let a = k .before .before .args in
+    refused (a .t1) (a .cells .now) (Call.Start (a .place)) (k .check .ensures) (c .before .before .number .ensures)
+    (c .before .if1 .taken) (c .with .ensures)
 
 add-next : tie.Need-add-next
 add-next c = omega (arith, go c .starts)

@@ -18,27 +18,33 @@ use Rattle.steps.proofs.Board.update.Statement.{statement}
 use Rattle.steps.proofs.Board.update.Tie as tie
 
 -- no check has refused
-go : (c : tie.Else1) → (let a = c .before .before .before .before .args in Passed (a .t1) (a .cells .now) (Call.Update (a .place) (a .key) (a .value)))
+go : (c : tie.Else1)
+    → (let a = c .before .before .before .before .args in Passed (a .t1) (a .cells .now) (Call.Update (a .place) (a .key) (a .value)))
 go c = passed _ _ _ (c .before .before .check .ensures) (c .before .number .ensures) (c .if1 .left)
 
 -- an own cell was found, or none
 found : (c : tie.After-known-told)
-    → (let a = c .before .before .before .before .before .before .before .before .before .before .args in ownAt (a .key) (numberAt (a .t1) (a .place)) (cellsOf (a .cells .now)) ≡ Found.At (c .before .mine .given .0 .0))
+    → (let a = c .before .before .before .before .before .before .before .before .before .before .args in
+    ownAt (a .key) (numberAt (a .t1) (a .place)) (cellsOf (a .cells .now)) ≡ Found.At (c .before .mine .given .0 .0))
 found c = sym (c .before .before .before .own-at .ensures) ∙ c .before .mine .given .1
 
 none : (c : tie.After-enum-told)
-    → (let a = c .before .before .before .before .before .before .before .before .before .args in ownAt (a .key) (numberAt (a .t1) (a .place)) (cellsOf (a .cells .now)) ≡ Found.Nothing)
+    → (let a = c .before .before .before .before .before .before .before .before .before .args in
+    ownAt (a .key) (numberAt (a .t1) (a .place)) (cellsOf (a .cells .now)) ≡ Found.Nothing)
 none c = sym (c .before .before .own-at .ensures) ∙ c .enum-told .given .1
 
 -- nothing clashes
 clear : (c : tie.Else2)
-    → (let a = c .before .before .before .before .before .before .before .before .before .before .before .before .args in
+    → (let n = c .before .before .before in
+    let a = n .before .before .before .before .before .before .before .before .before .args in
     conflict (a .key) (numberAt (a .t1) (a .place)) (viewAt (a .t1) (a .place)) (cellsOf (a .cells .now)) ≡ false)
 clear c = sym (c .before .conflicts .ensures) ∙ c .if2 .left
 
 -- a free cell was found
 room : (c : tie.After-known-told2)
-    → (let a = c .before .before .before .before .before .before .before .before .before .before .before .before .before .before .before .before .before .before .args in reusable (a .t1 .places) (cellsOf (a .cells .now)) ≡ Found.At (c .before .free .given .0 .0))
+    → (let n = c .before .before .before .before .before .before .before .before .before in
+    let a = n .before .before .before .before .before .before .before .before .before .args in
+    reusable (a .t1 .places) (cellsOf (a .cells .now)) ≡ Found.At (c .before .free .given .0 .0))
 room c = sym (c .before .before .before .reusable .ensures) ∙ c .before .free .given .1
 
 check-requires : tie.Need-check-requires
@@ -52,9 +58,10 @@ with-requires c κs = search needs
 
 returns : tie.Need-returns
 returns c =
-    let a = c .before .before .before .before .before .args in
-    refused (a .t1) (a .cells .now) (Call.Update (a .place) (a .key) (a .value))
-    (c .before .before .before .check .ensures) (c .before .before .number .ensures) (c .before .if1 .taken) (c .with .ensures)
+    let k = c .before .before .before in
+    let a = k .before .before .args in
+    refused (a .t1) (a .cells .now) (Call.Update (a .place) (a .key) (a .value)) (k .check .ensures) (c .before .before .number .ensures)
+    (c .before .if1 .taken) (c .with .ensures)
 
 mul-p : tie.Need-mul-p
 mul-p c = search needs
@@ -70,16 +77,18 @@ enum-known-mine c = search needs
 
 cell-at-requires : tie.Need-cell-at-requires
 cell-at-requires c κs =
-    let a = c .before .before .before .before .before .before .before .before .before .before .before .args in
-    own-inside (a .key) (numberAt (a .t1) (a .place)) (a .cells .now) _ (found (c .before))
+    let f = c .before in
+    let a = f .before .before .before .before .before .before .before .before .before .before .args in
+    own-inside (a .key) (numberAt (a .t1) (a .place)) (a .cells .now) _ (found f)
 
 valued-requires : tie.Need-valued-requires
 valued-requires c κs = search needs
 
 put-cell-requires : tie.Need-put-cell-requires
 put-cell-requires c κs =
-    let a = c .before .before .before .before .before .before .before .before .before .before .before .before .before .before .args in
-    own-inside (a .key) (numberAt (a .t1) (a .place)) (a .cells .now) _ (found (c .before .before .before .before))
+    let f = c .before .before .before .before in
+    let a = f .before .before .before .before .before .before .before .before .before .before .args in
+    own-inside (a .key) (numberAt (a .t1) (a .place)) (a .cells .now) _ (found f)
 
 with-requires-2 : tie.Need-with-requires-2
 with-requires-2 c κs = search needs
@@ -89,10 +98,12 @@ same-length c = search needs
 
 returns-2 : tie.Need-returns-2
 returns-2 c =
-    let a = c .before .before .before .before .before .before .before .before .before .before .before .before .before .before .before .before .before .before .args in
-    go (c .before .before .before .before .before .before .before .before .before .before .before .before .before .before) .is (c .with2 .ensures)
-    (update-own (a .t1) (a .cells .now) (a .place) (a .key) (a .value) (found (c .before .before .before .before .before .before .before .before))
-    (c .before .before .before .before .before .before .cell-at .ensures) (c .before .before .before .before .valued .ensures) (c .before .before .before .put-cell .ensures))
+    let f = c .before .before .before .before .before .before .before .before in
+    let k = f .before .before .before .before .before .before in
+    let a = k .before .before .before .before .args in
+    go k .is (c .with2 .ensures)
+    (update-own (a .t1) (a .cells .now) (a .place) (a .key) (a .value) (found f) (c .before .before .before .before .before .before .cell-at .ensures)
+    (c .before .before .before .before .valued .ensures) (c .before .before .before .put-cell .ensures))
 
 enum-told : tie.Need-enum-told
 enum-told c = search needs
@@ -117,10 +128,12 @@ same-length-2 c = search needs
 
 returns-3 : tie.Need-returns-3
 returns-3 c =
-    let a = c .before .before .before .before .before .before .before .before .before .before .before .before .before .before .args in
-    go (c .before .before .before .before .before .before .before .before .before .before) .is (c .with3 .ensures)
-    (update-clash (a .t1) (a .cells .now) (a .place) (a .key) (a .value) (none (c .before .before .before .before .before))
-    (sym (c .before .before .before .conflicts .ensures) ∙ c .before .before .if2 .taken) (c .before .in-state .ensures))
+    let n = c .before .before .before .before .before in
+    let k = n .before .before .before .before .before in
+    let a = k .before .before .before .before .args in
+    let clash = sym (c .before .before .before .conflicts .ensures) ∙ c .before .before .if2 .taken in
+    go k .is (c .with3 .ensures)
+    (update-clash (a .t1) (a .cells .now) (a .place) (a .key) (a .value) (none n) clash (c .before .in-state .ensures))
 
 reusable-requires : tie.Need-reusable-requires
 reusable-requires c κs = search needs
@@ -139,17 +152,23 @@ same-length-3 c = search needs
 
 returns-4 : tie.Need-returns-4
 returns-4 c =
-    let a = c .before .before .before .before .before .before .before .before .before .before .before .before .before .before .before .before .before .before .args in
-    go (c .before .before .before .before .before .before .before .before .before .before .before .before .before .before) .is (c .with4 .ensures)
-    (update-full (a .t1) (a .cells .now) (a .place) (a .key) (a .value) (none (c .before .before .before .before .before .before .before .before .before)) (clear (c .before .before .before .before .before .before))
-    (sym (c .before .before .before .reusable .ensures) ∙ c .before .enum-told2 .given .1))
+    let l = c .before .before .before .before .before .before in
+    let n = l .before .before .before in
+    let k = n .before .before .before .before .before in
+    let a = k .before .before .before .before .args in
+    let full = sym (c .before .before .before .reusable .ensures) ∙ c .before .enum-told2 .given .1 in
+    go k .is (c .with4 .ensures)
+    (update-full (a .t1) (a .cells .now) (a .place) (a .key) (a .value) (none n) (clear l) full)
 
 add-t50 : tie.Need-add-t50
-add-t50 c = omega (arith, go (c .before .before .before .before .before .before .before .before .before .before .before .before .before .before) .keyed)
+add-t50 c =
+    let n = c .before .before .before .before .before .before .before .before .before in
+    omega (arith, go (n .before .before .before .before .before) .keyed)
 
 put-cell-requires-2 : tie.Need-put-cell-requires-2
 put-cell-requires-2 c κs =
-    let a = c .before .before .before .before .before .before .before .before .before .before .before .before .before .before .before .before .before .before .before .args in
+    let n = c .before .before .before .before .before .before .before .before .before .before in
+    let a = n .before .before .before .before .before .before .before .before .before .args in
     free-inside (a .t1 .places) (a .cells .now) _ (room (c .before))
 
 with-requires-5 : tie.Need-with-requires-5
@@ -160,10 +179,14 @@ same-length-4 c = search needs
 
 returns-5 : tie.Need-returns-5
 returns-5 c =
-    let a = c .before .before .before .before .before .before .before .before .before .before .before .before .before .before .before .before .before .before .before .before .before .before .before .args in
-    go (c .before .before .before .before .before .before .before .before .before .before .before .before .before .before .before .before .before .before .before) .is (c .with5 .ensures)
-    (update-free (a .t1) (a .cells .now) (a .place) (a .key) (a .value) (none (c .before .before .before .before .before .before .before .before .before .before .before .before .before .before)) (clear (c .before .before .before .before .before .before .before .before .before .before .before))
-    (room (c .before .before .before .before .before)) (c .before .before .before .put-cell2 .ensures))
+    let r = c .before .before .before .before .before in
+    let l = r .before .before .before .before .before .before in
+    let n = l .before .before .before in
+    let k = n .before .before .before .before .before in
+    let a = k .before .before .before .before .args in
+    go k .is (c .with5 .ensures)
+    (update-free (a .t1) (a .cells .now) (a .place) (a .key) (a .value) (none n) (clear l) (room r)
+    (c .before .before .before .put-cell2 .ensures))
 
 pub update-spec : {M : Type 1} → statement M
 update-spec =

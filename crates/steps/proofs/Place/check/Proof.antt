@@ -9,19 +9,39 @@ use Rattle.steps.proofs.Place.check.Statement.{statement}
 use Rattle.steps.proofs.Place.check.Tie as tie
 
 -- what a test that was left says of its row of the table
-not-busy : (c : tie.Else1) → (let a = c .before .before .before .args in givenBusy (a .self .state) (a .call) ≡ false)
+not-busy : (c : tie.Else1)
+    → (let a = c .before .before .before .args in
+    givenBusy (a .self .state) (a .call) ≡ false)
 not-busy c = rw (c .before .before .is-start .ensures, c .before .is-idle .ensures) at (c .if1 .left)
 
-not-idle : (c : tie.Else2) → (let a = c .before .before .before .before .before .before .args in givenIdle (a .self .state) (a .call) ≡ false)
+not-idle : (c : tie.Else2)
+    → (let e₁ = c .before .before .before in
+    let a = e₁ .before .before .before .args in
+    givenIdle (a .self .state) (a .call) ≡ false)
 not-idle c = rw (c .before .before .is-start2 .ensures, c .before .is-idle2 .ensures) at (c .if2 .left)
 
-not-worn : (c : tie.Else3) → (let a = c .before .before .before .before .before .before .before .before .args in givenWorn (a .starts) (a .call) ≡ false)
+not-worn : (c : tie.Else3)
+    → (let e₂ = c .before .before in
+    let e₁ = e₂ .before .before .before in
+    let a = e₁ .before .before .before .args in
+    givenWorn (a .starts) (a .call) ≡ false)
 not-worn c = rw (c .before .is-start3 .ensures) at (c .if3 .left)
 
-not-spoiled : (c : tie.Else4) → (let a = c .before .before .before .before .before .before .before .before .before .before .before .args in givenSpoiled (a .self .state) (a .call) ≡ false)
+not-spoiled : (c : tie.Else4)
+    → (let e₃ = c .before .before .before in
+    let e₂ = e₃ .before .before in
+    let e₁ = e₂ .before .before .before in
+    let a = e₁ .before .before .before .args in
+    givenSpoiled (a .self .state) (a .call) ≡ false)
 not-spoiled c = rw (c .before .before .needs-unspoiled .ensures, c .before .is-spoiled .ensures) at (c .if4 .left)
 
-not-held : (c : tie.Else5) → (let a = c .before .before .before .before .before .before .before .before .before .before .before .before .before .before .args in givenHeld (a .self .state) (a .call) ≡ false)
+not-held : (c : tie.Else5)
+    → (let e₄ = c .before .before .before in
+    let e₃ = e₄ .before .before .before in
+    let e₂ = e₃ .before .before in
+    let e₁ = e₂ .before .before .before in
+    let a = e₁ .before .before .before .args in
+    givenHeld (a .self .state) (a .call) ≡ false)
 not-held c = rw (c .before .before .needs-open .ensures, c .before .is-prepared .ensures) at (c .if5 .left)
 
 is-start-requires : tie.Need-is-start-requires
@@ -32,9 +52,7 @@ is-idle-requires c κs = search needs
 
 returns : tie.Need-returns
 unfolding placeCheck
-returns c =
-    simp
-    (rw (c .before .before .is-start .ensures, c .before .is-idle .ensures) at (c .if1 .taken))
+returns c = simp (rw (c .before .before .is-start .ensures, c .before .is-idle .ensures) at (c .if1 .taken))
 
 is-start-requires-2 : tie.Need-is-start-requires-2
 is-start-requires-2 c κs = search needs
@@ -45,10 +63,8 @@ is-idle-requires-2 c κs = search needs
 returns-2 : tie.Need-returns-2
 unfolding placeCheck
 returns-2 c =
-    simp (
-      not-busy (c .before .before .before),
-      rw (c .before .before .is-start2 .ensures, c .before .is-idle2 .ensures) at (c .if2 .taken),
-    )
+    let e₁ = c .before .before .before in
+    simp (not-busy e₁, rw (c .before .before .is-start2 .ensures, c .before .is-idle2 .ensures) at (c .if2 .taken))
 
 is-start-requires-3 : tie.Need-is-start-requires-3
 is-start-requires-3 c κs = search needs
@@ -56,9 +72,11 @@ is-start-requires-3 c κs = search needs
 returns-3 : tie.Need-returns-3
 unfolding placeCheck
 returns-3 c =
+    let e₂ = c .before .before in
+    let e₁ = e₂ .before .before .before in
     simp (
-      not-busy (c .before .before .before .before .before),
-      not-idle (c .before .before),
+      not-busy e₁,
+      not-idle e₂,
       rw (c .before .is-start3 .ensures) at (c .if3 .taken),
     )
 
@@ -71,10 +89,13 @@ is-spoiled-requires c κs = search needs
 returns-4 : tie.Need-returns-4
 unfolding placeCheck
 returns-4 c =
+    let e₃ = c .before .before .before in
+    let e₂ = e₃ .before .before in
+    let e₁ = e₂ .before .before .before in
     simp (
-      not-busy (c .before .before .before .before .before .before .before .before),
-      not-idle (c .before .before .before .before .before),
-      not-worn (c .before .before .before),
+      not-busy e₁,
+      not-idle e₂,
+      not-worn e₃,
       rw (c .before .before .needs-unspoiled .ensures, c .before .is-spoiled .ensures) at (c .if4 .taken),
     )
 
@@ -87,11 +108,15 @@ is-prepared-requires c κs = search needs
 returns-5 : tie.Need-returns-5
 unfolding placeCheck
 returns-5 c =
+    let e₄ = c .before .before .before in
+    let e₃ = e₄ .before .before .before in
+    let e₂ = e₃ .before .before in
+    let e₁ = e₂ .before .before .before in
     simp (
-      not-busy (c .before .before .before .before .before .before .before .before .before .before .before),
-      not-idle (c .before .before .before .before .before .before .before .before),
-      not-worn (c .before .before .before .before .before .before),
-      not-spoiled (c .before .before .before),
+      not-busy e₁,
+      not-idle e₂,
+      not-worn e₃,
+      not-spoiled e₄,
       rw (c .before .before .needs-open .ensures, c .before .is-prepared .ensures) at (c .if5 .taken),
     )
 
@@ -101,24 +126,34 @@ key-of-requires c κs = search needs
 returns-6 : tie.Need-returns-6
 unfolding placeCheck
 returns-6 c =
+    let e₅ = c .before .before in
+    let e₄ = e₅ .before .before .before in
+    let e₃ = e₄ .before .before .before in
+    let e₂ = e₃ .before .before in
+    let e₁ = e₂ .before .before .before in
     simp (
-      not-busy (c .before .before .before .before .before .before .before .before .before .before .before .before .before),
-      not-idle (c .before .before .before .before .before .before .before .before .before .before),
-      not-worn (c .before .before .before .before .before .before .before .before),
-      not-spoiled (c .before .before .before .before .before),
-      not-held (c .before .before),
+      not-busy e₁,
+      not-idle e₂,
+      not-worn e₃,
+      not-spoiled e₄,
+      not-held e₅,
       le-leb _ _ (rw (c .before .key-of .ensures) at (c .if6 .taken)),
     )
 
 returns-7 : tie.Need-returns-7
 unfolding placeCheck
 returns-7 c =
+    let e₅ = c .before .before in
+    let e₄ = e₅ .before .before .before in
+    let e₃ = e₄ .before .before .before in
+    let e₂ = e₃ .before .before in
+    let e₁ = e₂ .before .before .before in
     simp (
-      not-busy (c .before .before .before .before .before .before .before .before .before .before .before .before .before),
-      not-idle (c .before .before .before .before .before .before .before .before .before .before),
-      not-worn (c .before .before .before .before .before .before .before .before),
-      not-spoiled (c .before .before .before .before .before),
-      not-held (c .before .before),
+      not-busy e₁,
+      not-idle e₂,
+      not-worn e₃,
+      not-spoiled e₄,
+      not-held e₅,
       lt-leb _ _ (rw (c .before .key-of .ensures) at (c .if6 .left)),
     )
 
