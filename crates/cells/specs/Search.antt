@@ -1,10 +1,10 @@
 -- What the quick scans are made of. No promise speaks of these: each scan is proved equal to its rule in Rules.
 -- Assumes nothing.
 use mathlib.Core.Path.{_≡_}
-use mathlib.Core.Bool.{Bool, true, false, cond, _&&_, _||_}
+use mathlib.Core.Bool.{Bool, true, false, cond, not, _&&_, _||_}
 use mathlib.Core.List.{List, [], _∷_}
 use Prim.Native.Nat.{ℕ, _+_, _≤_, _<_}
-use lib.Dec.{eqb, ltb}
+use lib.Dec.{eqb, ltb, leb}
 use lib.ListN.{length, getD, set, replicate}
 use Rattle.cells.specs.declared.Cell.{Cell}
 use Rattle.cells.specs.declared.Found.{Found}
@@ -67,22 +67,41 @@ lookFrom key number view i l [] = l
 lookFrom key number view i l (c ∷ cs) =
     lookFrom key number view (i + 1) (pickLook (ofKey key c) (lookTurn number view i c l) l) cs
 
--- how many first words have a place in the table of newest numbers: 0 and those of 256 keys
+-- how many first words have a place in a table of newest numbers: 0 and those of 256 keys
 abbrev pub allTops : ℕ
 allTops = 257
 
--- the table after one more cell: its first word's number is raised to the cell's commit number if that is higher
-abbrev pub raised : List ℕ → Cell → List ℕ
-raised t c = cond (ltb (getD t (c .word) 0) (c .commit)) (set t (c .word) (c .commit)) t
+-- the number of a first word that is in the table is raised to a higher one
+abbrev pub raised : List ℕ → ℕ → ℕ → List ℕ
+raised t w n = cond (ltb w allTops && ltb (getD t w 0) n) (set t w n) t
 
-unfoldable pub topsFrom : List ℕ → List Cell → List ℕ
-topsFrom t [] = t
-topsFrom t (c ∷ cs) = topsFrom (raised t c) cs
+-- the table after one more cell, if the cell passes a test
+abbrev pub raisedBy : (Cell → Bool) → List ℕ → Cell → List ℕ
+raisedBy p t c = cond (p c) (raised t (c .word) (c .commit)) t
 
--- for each first word the greatest commit number of its cells
-unfoldable pub topsOf : List Cell → List ℕ
-topsOf cs = topsFrom (replicate allTops 0) cs
+unfoldable pub topsFrom : (Cell → Bool) → List ℕ → List Cell → List ℕ
+topsFrom p t [] = t
+topsFrom p t (c ∷ cs) = topsFrom p (raisedBy p t c) cs
 
--- the cell's key has a committed cell with a number above the cell's, by the table where the first word has a place in it
+-- for each first word the greatest commit number of its cells that pass a test
+unfoldable pub topsOf : (Cell → Bool) → List Cell → List ℕ
+topsOf p cs = topsFrom p (replicate allTops 0) cs
+
+-- every cell, and those with a commit number that is at most the view
+abbrev pub anyCell : Cell → Bool
+anyCell c = true
+
+abbrev pub upTo : ℕ → Cell → Bool
+upTo view c = leb (c .commit) view
+
+-- the cell's key has a committed cell with a number above the cell's, by the table where the first word is in it
 unfoldable pub outdatedBy : List ℕ → List Cell → Cell → Bool
-outdatedBy tops cs c = cond (ltb (c .word) allTops) (ltb (c .commit) (getD tops (c .word) 0)) (hasCell (newer c) cs)
+outdatedBy all cs c = cond (ltb (c .word) allTops) (ltb (c .commit) (getD all (c .word) 0)) (hasCell (newer c) cs)
+
+-- the table of a view knows of a newer cell that the view sees
+unfoldable pub surpassedIn : List ℕ → Cell → Bool
+surpassedIn seen c = cond (ltb (c .word) allTops) (ltb (c .commit) (getD seen (c .word) 0)) false
+
+-- the table of a view knows that the view keeps the cell
+unfoldable pub heldIn : List ℕ → Cell → ℕ → Bool
+heldIn seen c view = cond (ltb (c .word) allTops) (leb (c .commit) view && not (ltb (c .commit) (getD seen (c .word) 0))) false

@@ -7,7 +7,8 @@ ghost use Rattle.cells.specs.Cells.{noCell, cellsOf, withCells, countOf,
 ghost use Rattle.cells.specs.Cells.{empty, ofKey, committed, own, foreign, seenBy};
 ghost use Rattle.cells.specs.Rules.{ownAt, newestSeen, conflict, foreignWith, hasCell, keeps, lookOf};
 ghost use Rattle.cells.specs.Rules.{mine, visible, blocks, foreignOf, clashes, valued, stamped, wiped, newer, between};
-ghost use Rattle.cells.specs.Search.{partOf, partIs, fourHave, NextAt, lowestOf, newestOf, noLook, lookTurn, topsOf, outdatedBy};
+ghost use Rattle.cells.specs.Search.{partOf, partIs, fourHave, NextAt, lowestOf, newestOf, noLook, lookTurn, raised, topsOf, anyCell, upTo};
+ghost use Rattle.cells.specs.Search.{outdatedBy, surpassedIn, heldIn};
 
 pub struct Cell {
     pub word: u32,
@@ -443,36 +444,78 @@ pub fn look(cells: &[u32], key: u32, number: u32, view: u32) -> Looked
     seen
 }
 
-// How many first words have a place in the table of newest numbers: 0 and those of 256 keys
+// How many first words have a place in a table of newest numbers: 0 and those of 256 keys
 pub const TOPS: usize = 257;
 
-// For each first word below TOPS the greatest commit number of its cells: one pass for all keys
-pub fn tops(cells: &[u32]) -> [u32; TOPS]
-    ensures { λ r. ⌜ r ≡ topsOf (cellsOf (now (cells .entry))) ⌝ }
+// For each first word below TOPS the greatest commit number of its cells, of all of them and of those that a view sees
+pub struct Tops {
+    pub all: [u32; TOPS],
+    pub seen: [u32; TOPS],
+}
+
+// The number of a first word is raised to a higher one
+fn raise(t: &mut [u32; TOPS], w: usize, n: u32)
+    ensures { λ r. ⌜ now (t .exit) ≡ raised (now (t .entry)) w n ⌝ }
+{
+    if w < TOPS {
+        if t[w] < n {
+            t[w] = n;
+        }
+    }
+}
+
+// Both tables for every key at once, in one pass
+pub fn tops_of(cells: &[u32], view: u32) -> Tops
+    ensures { λ r. ⌜ r ≡ record { all = topsOf anyCell (cellsOf (now (cells .entry))); seen = topsOf (upTo view) (cellsOf (now (cells .entry))) } ⌝ }
 {
     let n = count(cells);
-    let mut t = [0u32; TOPS];
+    let mut all = [0u32; TOPS];
+    let mut seen = [0u32; TOPS];
     let mut i = 0;
     while i < n {
         let c = cell_at(cells, i);
         i += 1;
         let w = c.word as usize;
-        if w < TOPS {
-            if t[w] < c.commit {
-                t[w] = c.commit;
-            }
+        raise(&mut all, w, c.commit);
+        if c.commit <= view {
+            raise(&mut seen, w, c.commit);
         }
     }
-    t
+    Tops {
+        all: all,
+        seen: seen,
+    }
 }
 
-// Whether the cell's key has a committed cell with a number above the cell's, by the table where the first word has a place in it
-pub fn outdated_by(tops: &[u32; TOPS], cells: &[u32], c: Cell) -> bool
-    ensures { λ r. ⌜ r ≡ outdatedBy (now (tops .entry)) (cellsOf (now (cells .entry))) c ⌝ }
+// Whether the cell's key has a committed cell with a number above the cell's, by the table where the first word is in it
+pub fn outdated_by(all: &[u32; TOPS], cells: &[u32], c: Cell) -> bool
+    ensures { λ r. ⌜ r ≡ outdatedBy (now (all .entry)) (cellsOf (now (cells .entry))) c ⌝ }
 {
     let w = c.word as usize;
     if w < TOPS {
-        return c.commit < tops[w];
+        return c.commit < all[w];
     }
     outdated(cells, c)
+}
+
+// Whether the table of a view knows of a newer cell that the view sees
+pub fn surpassed(seen: &[u32; TOPS], c: Cell) -> bool
+    ensures { λ r. ⌜ r ≡ surpassedIn (now (seen .entry)) c ⌝ }
+{
+    let w = c.word as usize;
+    if w < TOPS {
+        return c.commit < seen[w];
+    }
+    false
+}
+
+// Whether the table of a view knows that the view keeps the cell
+pub fn held_by(seen: &[u32; TOPS], c: Cell, view: u32) -> bool
+    ensures { λ r. ⌜ r ≡ heldIn (now (seen .entry)) c view ⌝ }
+{
+    let w = c.word as usize;
+    if w < TOPS {
+        return (c.commit <= view) & !(c.commit < seen[w]);
+    }
+    false
 }
