@@ -1,0 +1,207 @@
+// The lane board for C and Rust: a record crosses as 50 words.
+use lanes::Stop;
+use records::Answer;
+use records::Call;
+use records::CallRead;
+use steps::Board;
+use steps::Place;
+use steps::State;
+ghost use mathlib.Core.Path.{_≡_};
+ghost use lib.ListN.{length};
+ghost use Rattle.records.specs.Answers.{numberOf, valueOf};
+ghost use Rattle.lane_c.specs.Call.{callNamed, upper, lower, crossed, stepOnWords, laneCall};
+ghost use Rattle.lane_c.specs.Serve.{whyOf, handed, laneServe};
+ghost use Rattle.lane_c.specs.Words.{recordWords, stateWord, stateOf, recordOf, wordsOfRecord, wellFormed};
+
+// One call on a record held as 50 words: the refusal number in the upper and the value in the lower 32 bits.
+#[no_mangle]
+pub extern "C" fn lane_call(
+    words: &mut [u32],
+    cells: &mut [u32],
+    kind: u32,
+    place: u32,
+    key: u32,
+    value: u32,
+) -> u64
+    ensures { λ r. ⌜ crossed r (now (words .exit)) (now (cells .exit)) ≡ laneCall (now (words .entry)) (now (cells .entry)) kind place key value ⌝ }
+{
+    match call_named(kind, place, key, value) {
+        CallRead::Good(call) => step_on_words(words, cells, call),
+        CallRead::Record => answer_word(Answer::Record),
+    }
+}
+
+// A call on a record held as words: BOARD where they are none, otherwise its step.
+fn step_on_words(words: &mut [u32], cells: &mut [u32], call: Call) -> u64
+    ensures { λ r. ⌜ crossed r (now (words .exit)) (now (cells .exit)) ≡ stepOnWords (now (words .entry)) (now (cells .entry)) call ⌝ }
+{
+    if !well_formed(words) {
+        return answer_word(Answer::Board);
+    }
+    let before = load(words);
+    let done = lanes::call(before, cells, call);
+    let after = done.board;
+    save(words, after);
+    let answer = done.answer;
+    answer_word(answer)
+}
+
+// How far `lane_serve` got: bytes of calls taken, bytes of answers written, and why it stopped.
+#[repr(C)]
+pub struct LaneServed {
+    pub taken: u64,
+    pub written: u64,
+    pub why: u32,
+}
+
+// Call records answered one after another, on a record held as 50 words.
+#[no_mangle]
+pub extern "C" fn lane_serve(
+    words: &mut [u32],
+    cells: &mut [u32],
+    calls: &[u8],
+    answers: &mut [u8],
+) -> LaneServed
+    ensures { λ r. ⌜ handed r (now (words .exit)) (now (cells .exit)) (now (answers .exit))
+        ≡ laneServe (now (words .entry)) (now (cells .entry)) (now (calls .entry)) (now (answers .entry)) ⌝ }
+{
+    if !well_formed(words) {
+        return LaneServed {
+            taken: 0,
+            written: 0,
+            why: 3,
+        };
+    }
+    let before = load(words);
+    let done = lanes::serve(before, cells, calls, answers);
+    let board = done.board;
+    save(words, board);
+    let stop = done.stop;
+    LaneServed {
+        taken: done.taken as u64,
+        written: done.written as u64,
+        why: why_of(stop),
+    }
+}
+
+// The number of a reason to stop.
+fn why_of(stop: Stop) -> u32
+    ensures { λ r. ⌜ r ≡ whyOf stop ⌝ }
+{
+    match stop {
+        Stop::End => 0,
+        Stop::Record => 1,
+        Stop::Room => 2,
+    }
+}
+
+// The call that a kind names.
+fn call_named(kind: u32, place: u32, key: u32, value: u32) -> CallRead
+    ensures { λ r. ⌜ r ≡ callNamed kind place key value ⌝ }
+{
+    match kind {
+        1 => CallRead::Good(Call::Start { place }),
+        2 => CallRead::Good(Call::Read { place, key }),
+        3 => CallRead::Good(Call::Update { place, key, value }),
+        4 => CallRead::Good(Call::Prepare { place }),
+        5 => CallRead::Good(Call::Commit { place }),
+        6 => CallRead::Good(Call::Rollback { place }),
+        _ => CallRead::Record,
+    }
+}
+
+// An answer as one word: its number above its value.
+fn answer_word(a: Answer) -> u64
+    ensures { λ r. ⌜ (upper r ≡ numberOf a) × (lower r ≡ valueOf a) ⌝ }
+{
+    (records::number(a) as u64) * UPPER + (records::value(a) as u64)
+}
+
+// Three words for each of sixteen places, and the two counts.
+const WORDS: usize = 50;
+
+const STARTS: usize = 48;
+
+const COMMITS: usize = 49;
+
+// What one in the upper 32 bits counts.
+const UPPER: u64 = 4_294_967_296;
+
+// The word of a state.
+fn state_word(state: State) -> u32
+    ensures { λ r. ⌜ r ≡ stateWord state ⌝ }
+{
+    match state {
+        State::Idle => 0,
+        State::Open => 1,
+        State::Spoiled => 2,
+        State::Prepared => 3,
+    }
+}
+
+// The state of a word.
+fn state_of(word: u32) -> State
+    ensures { λ r. ⌜ r ≡ stateOf word ⌝ }
+{
+    match word {
+        0 => State::Idle,
+        1 => State::Open,
+        2 => State::Spoiled,
+        _ => State::Prepared,
+    }
+}
+
+// Whether the words are a record: 50 of them, and no state word above 3.
+fn well_formed(words: &[u32]) -> bool
+    ensures { λ r. ⌜ r ≡ wellFormed (now (words .entry)) ⌝ }
+{
+    if words.len() != WORDS {
+        return false;
+    }
+    for i in 0..Board::PLACES {
+        let at = 3 * i;
+        if 3 < words[at] {
+            return false;
+        }
+    }
+    true
+}
+
+// The record from its words.
+fn load(words: &[u32]) -> Board
+    requires { ⌜ length (now words) ≡ recordWords ⌝ }
+    ensures { λ r. ⌜ r ≡ recordOf (now (words .entry)) ⌝ }
+{
+    let fresh = Board::fresh();
+    let mut places = fresh.places;
+    for i in 0..Board::PLACES {
+        let at = 3 * i;
+        places[i] = Place {
+            state: state_of(words[at]),
+            number: words[at + 1],
+            view: words[at + 2],
+        };
+    }
+    Board {
+        places: places,
+        starts: words[STARTS],
+        commits: words[COMMITS],
+    }
+}
+
+// The record put into its words.
+fn save(words: &mut [u32], b: Board)
+    requires { ⌜ length (now words) ≡ recordWords ⌝ }
+    ensures { λ r. ⌜ now (words .exit) ≡ wordsOfRecord b ⌝ }
+{
+    for i in 0..Board::PLACES {
+        let p = b.places[i];
+        let s = p.state;
+        let at = 3 * i;
+        words[at] = state_word(s);
+        words[at + 1] = p.number;
+        words[at + 2] = p.view;
+    }
+    words[STARTS] = b.starts;
+    words[COMMITS] = b.commits;
+}
