@@ -12,7 +12,6 @@ use lib.Seq.{getD-set-same, getD-set-other, getD-append-seam}
 use Rattle.cells.specs.declared.Cell.{Cell}
 use Rattle.cells.specs.Cells.{noCell, own}
 use Rattle.cells.specs.Rules.{wiped, stamped}
-use Rattle.cells.proofs.Scan.{pick-true, pick-false}
 use Rattle.steps.specs.declared.State.{State}
 use Rattle.steps.specs.declared.Place.{Place}
 use Rattle.steps.specs.declared.Board.{Board}
@@ -22,7 +21,7 @@ use Rattle.steps.specs.Step.{numberAt}
 use Rattle.steps.proofs.Tests.{two}
 use Rattle.history.specs.History.{lastWrite, Run, nobody, Done, nothing, Ledger, ended, put, tick}
 use Rattle.history.proofs.Basics.{cases, eq?, clash, none-some}
-use Rattle.history.proofs.Facts.{cellAt, Draft, Version, own-facts, draft-own}
+use Rattle.history.proofs.Facts.{cellAt, pick-true, pick-false, Draft, Version, own-facts, draft-own}
 use Rattle.history.proofs.Leave.{wroteAt}
 use Rattle.history.proofs.Link.{put-same, put-other, wrote, busy, Matches, Live, Shows, Linked, writer-busy, same-place, own-cell}
 

@@ -2,7 +2,7 @@
 -- Assumes nothing.
 use mathlib.Core.Path.{_≡_, sym, ap, _∙_}
 use mathlib.Core.Logic.{_⊎_, inl, inr}
-use mathlib.Core.Bool.{true, false, not, _&&_}
+use mathlib.Core.Bool.{Bool, true, false, not, _&&_}
 use mathlib.Core.List.{List, [], _∷_}
 use Prim.Native.Nat.{ℕ, zero, suc, _+_, _≤_, _<_}
 use native.Mathlib.Omega.{arith}
@@ -12,7 +12,7 @@ use borrow.Author.Tests.{ltb-true, leb-true, eqb-true, eqb-false, not-true, lt-l
 use Rattle.cells.specs.declared.Cell.{Cell}
 use Rattle.cells.specs.declared.Found.{Found}
 use Rattle.cells.specs.Cells.{noCell, empty, ofKey, committed, own, foreign, seenBy}
-use Rattle.cells.specs.Rules.{hasCell, mine, ownAt, visible, clashes, blocks, newer, between}
+use Rattle.cells.specs.Rules.{pickCell, hasCell, mine, ownAt, visible, clashes, blocks, newer, between}
 use Rattle.cells.proofs.Meaning.{own-found, own-none}
 use Rattle.steps.specs.declared.Place.{Place}
 use Rattle.steps.specs.Spent.{hasPlace, keepsAt, spent}
@@ -21,6 +21,13 @@ use Rattle.history.proofs.Basics.{cases, clash, or-cases, or-left, or-r
 
 abbrev pub cellAt : List Cell → ℕ → Cell
 cellAt cs i = getD cs i noCell
+
+-- what a choice by a test comes to
+pub pick-true : {t : Bool} (c d : Cell) → t ≡ true → pickCell t c d ≡ c
+pick-true c d e = ap (λ (u : Bool). pickCell u c d) e
+
+pub pick-false : {t : Bool} (c d : Cell) → t ≡ false → pickCell t c d ≡ d
+pick-false c d e = ap (λ (u : Bool). pickCell u c d) e
 
 -- the cell carries the unfinished write of transaction t to key k
 pub record Draft (c : Cell) (t k : ℕ) : Type 0 where

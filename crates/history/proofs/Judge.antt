@@ -11,7 +11,7 @@ use Prim.Native.Nat.{ℕ, zero, suc, _+_, _/_, _<_}
 use native.Mathlib.Nat.{not-suc-le-zero}
 use native.Mathlib.Omega.{arith}
 use lib.Dec.{leb, eqb}
-use lib.ListN.{length}
+use lib.ListN.{length, take}
 use borrow.Author.Tests.{leb-true, leb-false, le-leb, eqb-true, eqb-false, eq-eqb, ne-eqb, not-true}
 use Rattle.records.specs.declared.Call.{Call}
 use Rattle.records.specs.declared.Answer.{Answer}
@@ -32,7 +32,7 @@ use Rattle.steps.specs.Spent.{holdsBack, heldBack, reusable}
 use Rattle.steps.specs.Step.{Outcome, done, readAs, updatedAs, numberAt, viewAt, step}
 use Rattle.steps.proofs.Tests.{by-test, two, and-both as both, and-left, and-right}
 use Rattle.steps.proofs.Cases.{Cleared, on-read, on-update, open-of}
-use Rattle.history.specs.History.{Pair, answeredBy, Ledger, doneAt, ledger, Contested, Reaches}
+use Rattle.history.specs.History.{Pair, answeredBy, Ledger, doneAt, ledger, leave, Contested, Reaches}
 use Rattle.history.specs.Verdict.{anyBelow, isSome, wroteKey, contested, hidden, checksOf, due, verdict, NeedsCell, Packed, Answers}
 use Rattle.history.specs.Verdict.{Right, AllRight, FullRight, Decided}
 use Rattle.history.proofs.Basics.{cases, eq?, clash, or-cases, or-left, or-right, none-some, place-found, some-place}
@@ -106,13 +106,12 @@ module _ (b : Board) (cs : List Cell) (L : Ledger) (𝓛 : Linked b cs L) (p k :
   foreign-cell u e =
       let r = has-found (foreignOf k (numberAt b p) u) cs e in
       let c = cellAt cs (r .at) in
-      let a = and-left (ofKey k c && foreign (numberAt b p) c) (eqb (c .number) u) (r .passes) in
-      let f = foreign-facts c (numberAt b p) (and-right (ofKey k c) (foreign (numberAt b p) c) a) in (
+      let a = and-right (ofKey k c) (foreign (numberAt b p) c && eqb (c .number) u) (r .passes) in (
         r .at,
         record {
-          word = eqb-true _ _ (and-left (ofKey k c) (foreign (numberAt b p) c) a);
-          commit = f .0;
-          number = eqb-true _ _ (and-right (ofKey k c && foreign (numberAt b p) c) (eqb (c .number) u) (r .passes));
+          word = eqb-true _ _ (and-left (ofKey k c) (foreign (numberAt b p) c && eqb (c .number) u) (r .passes));
+          commit = foreign-facts c (numberAt b p) (and-left (foreign (numberAt b p) c) (eqb (c .number) u) a) .0;
+          number = eqb-true _ _ (and-right (foreign (numberAt b p) c) (eqb (c .number) u) a);
         },
       )
 
@@ -120,7 +119,7 @@ module _ (b : Board) (cs : List Cell) (L : Ledger) (𝓛 : Linked b cs L) (p k :
   unfolding foreignWith
   cell-foreign u i d n =
       some-has (foreignOf k (numberAt b p) u) cs i (in-cells cs i k (d .word))
-      (both (both (eq-eqb _ _ (d .word)) (foreign-of (cellAt cs i) (numberAt b p) u k d n)) (eq-eqb _ _ (d .number)))
+      (both (eq-eqb _ _ (d .word)) (both (foreign-of (cellAt cs i) (numberAt b p) u k d n) (eq-eqb _ _ (d .number))))
 
   held-hidden : heldBack k (numberAt b p) (b .places) cs ≡ true → hidden L k ≡ true
   unfolding heldBack
@@ -197,8 +196,11 @@ module _ (b : Board) (ws : List ℕ) (L : Ledger) (s : inShape b (length ws) ≡
       on-read (Due (Call.Read p k)) b ws p k
       (λ i f. inl (rw (own-cell b cs L 𝓛 p i k l (open-busy b cs L 𝓛 p o) (own-draft (numberAt b p) k cs i f)) (refl, refl)))
       (λ n t. inl (rw (not-written b cs L 𝓛 p k l n, held-hidden b cs L 𝓛 p k t) (refl, refl)))
-      (λ n t. inl (rw (not-written b cs L 𝓛 p k l n, not-hidden b cs L 𝓛 p k l o t)
-      (refl, live-read b cs L 𝓛 (viewAt b p) (inr (p, l, o, refl)) k ∙ rw (𝓛 .placed p l .view))))
+      (λ n t. inl (rw (not-written b cs L 𝓛 p k l n, not-hidden b cs L 𝓛 p k l o t) (
+        refl,
+        live-read b cs L 𝓛 (viewAt b p) (inr (p, l, o, refl)) k
+            ∙ ap (λ (w : ℕ). leave (take w (L .past)) k) (𝓛 .placed p l .view),
+      )))
 
   update-due : (p k v : ℕ) → p < allPlaces → placeAt b p .state ≡ State.Open → givenKey (Call.Update p k v) ≡ false
       → Due (Call.Update p k v) (updatedAs b ws p k v)

@@ -12,3 +12,4 @@ pub mod Demand
 pub mod Full
 pub mod Judge
 pub mod Axioms
+pub mod Examples

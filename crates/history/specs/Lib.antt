@@ -1,3 +1,4 @@
 pub mod History
 pub mod Verdict
 pub mod Axioms
+pub mod Examples

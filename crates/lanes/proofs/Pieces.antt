@@ -205,7 +205,7 @@ cond-flip : (n : ℕ) → cond (eqb n 0) [] (answerRecord noCall) ≡ cond (eqb 
 cond-flip zero = refl
 cond-flip (suc n) = ap (λ (t : Bool). cond t [] (answerRecord noCall)) (eqb·suc-zero n ∙ sym (eqb·zero-suc n))
 
-ends : (b : Board) (ws cut : List ℕ) → length cut < callBytes → atEnd cut ≡ answersTo b ws (cut ++ [])
+ends : (b : Board) (ws cut : List ℕ) → length cut < callBytes → atEnd (length cut) ≡ answersTo b ws (cut ++ [])
 unfolding answersTo callsIn runOf recordsOf
 ends b ws cut h =
     let none : wholeCalls cut ≡ 0 = omega arith in

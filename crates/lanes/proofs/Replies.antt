@@ -31,23 +31,14 @@ use Rattle.records.specs.Format.{
   wrote,
   writtenAnswer,
 }
+use Rattle.records.proofs.Bytes.{same-equal}
+use Rattle.records.proofs.Fields.{answer-length}
 use Rattle.steps.specs.declared.Board.{Board}
 use Rattle.steps.specs.declared.Answered.{Answered}
 use Rattle.steps.specs.Step.{outcome, step}
 use Rattle.lanes.specs.Serve.{replyTo, noCall, oneAnswered, answerOne}
 
 -- READING
-
-same-is : (xs ys : List ℕ) → sameBytes xs ys ≡ true → xs ≡ ys
-unfolding sameBytes
-same-is [] [] e = refl
-same-is [] (y ∷ ys) e = absurd (false≢true e)
-same-is (x ∷ xs) [] e = absurd (false≢true e)
-same-is (x ∷ xs) (y ∷ ys) e = go (eqb x y) refl e (same-is xs ys)
-  where
-    go : (t : Bool) → eqb x y ≡ t → (t && sameBytes xs ys) ≡ true → (sameBytes xs ys ≡ true → xs ≡ ys) → x ∷ xs ≡ y ∷ ys
-    go true h s f = λ i. eqb-true x y h i ∷ f s i
-    go false h s f = absurd (false≢true s)
 
 place-in : (kind place key value : ℕ) → placeOf (callOf kind place key value) ≡ place
 place-in zero p k v = refl
@@ -67,7 +58,7 @@ read-from bs call e = go (sameBytes bs (callRecord (callFrom bs))) refl e
         → (bs ≡ callRecord call) × (placeOf call ≡ getD bs 3 0)
     go true h g =
         let same : callFrom bs ≡ call = cc in
-        (same-is bs (callRecord (callFrom bs)) h ∙ ap callRecord same, ap placeOf (sym same) ∙ place-in (getD bs 2 0) (getD bs 3 0) _ _)
+        (same-equal bs (callRecord (callFrom bs)) h ∙ ap callRecord same, ap placeOf (sym same) ∙ place-in (getD bs 2 0) (getD bs 3 0) _ _)
     go false h g = let z : _≡_ {A = ℕ} 0 1 = cc in absurd (omega arith)
 
 -- a call that was read has a place byte
@@ -96,10 +87,6 @@ answer-back Answer.Prepared = refl
 answer-back Answer.Full = refl
 answer-back Answer.Record = refl
 
-pub answer-long : (reply : Reply) → length (answerRecord reply) ≡ answerBytes
-unfolding answerRecord
-answer-long reply = refl
-
 -- where the answer has a record and there is room, its record is put
 pub written-is : (bs : List ℕ) (to : ℕ) (reply : Reply) → goesIn 1 (reply .place) ≡ true → valueOf (reply .answer) < 256 ^ 4
     → to + answerBytes ≤ length bs → writtenAnswer bs to reply .bytes ≡ putAt bs to (answerRecord reply)
@@ -107,7 +94,7 @@ unfolding writtenAnswer
 written-is bs to reply p v h =
     let fits : replyFits reply ≡ true = rw (p, lt-ltb (valueOf (reply .answer)) (256 ^ 4) v) in
     let room : leb (to + length (answerRecord reply)) (length bs) ≡ true =
-    rw answer-long (le-leb (to + answerBytes) (length bs) h) in
+    rw answer-length (le-leb (to + answerBytes) (length bs) h) in
     rw (fits, room)
 
 -- ONE RECORD

@@ -41,7 +41,7 @@ use Rattle.lanes.specs.Serve.{
   answerOne,
 }
 use Rattle.records.proofs.Bytes.{put-next}
-use Rattle.lanes.proofs.Replies.{answer-long}
+use Rattle.records.proofs.Fields.{answer-length}
 
 -- calls that are left, of so many records, with i records answered before them; last is why serving stops if they are all calls
 abbrev restWith : List Call → ℕ → ℕ → Stop → Board → List ℕ → List ℕ → Serving
@@ -111,7 +111,7 @@ module _ (i k : ℕ) (last : Stop) (b : Board) (ws answers : List ℕ) where
       let outs : rec ++ recordsOf (run .replies) ++ refused (suc (length calls)) (suc k) ≡ rec ++ out =
       ap (λ (t : Bool). rec ++ recordsOf (run .replies) ++ cond t (answerRecord noCall) []) less
       ∙ append-assoc rec (recordsOf (run .replies)) (refused (length calls) k) in
-      let long : length rec ≡ answerBytes = answer-long (replyTo call o) in
+      let long : length rec ≡ answerBytes = answer-length (replyTo call o) in
       let far : answerBytes * i + length rec ≡ answerBytes * (i + 1) = omega arith in
       let puts : putAt answers (answerBytes * i) (rec ++ recordsOf (run .replies) ++ refused (suc (length calls)) (suc k))
       ≡ putAt (putAt answers (answerBytes * i) rec) (answerBytes * (i + 1)) out =
@@ -145,7 +145,7 @@ module _ (i k : ℕ) (last : Stop) (b : Board) (ws answers : List ℕ) where
       let first : ltb 0 (suc k) ≡ true = leb·suc-suc 0 k ∙ leb·zero k in
       let outs : refused 0 (suc k) ≡ answerRecord noCall = ap (λ (t : Bool). cond t (answerRecord noCall) []) first in
       let writes : answerBytes * i + length (refused 0 (suc k)) ≡ answerBytes * (i + 1) =
-      ap (λ (l : List ℕ). answerBytes * i + length l) outs ∙ rw answer-long (omega arith) in
+      ap (λ (l : List ℕ). answerBytes * i + length l) outs ∙ rw answer-length (omega arith) in
       λ j. record {
         board = b;
         words = ws;

@@ -8,13 +8,14 @@ use records::Reply;
 use steps::Answered;
 use steps::Board;
 ghost use mathlib.Core.Path.{_≡_};
-ghost use Prim.Native.Nat.{_+_, _≤_, min};
+ghost use Prim.Native.Nat.{_+_, _-_, _≤_, min};
 ghost use mathlib.Core.Bool.{cond};
 ghost use lib.Dec.{leb};
-ghost use lib.ListN.{length};
-ghost use Rattle.records.specs.Format.{answerBytes, callAt};
+ghost use lib.ListN.{length, take, drop};
+ghost use Rattle.records.specs.Format.{answerBytes, callAt, putAt};
 ghost use Rattle.steps.specs.Step.{outcome, step};
 ghost use Rattle.lanes.specs.Serve.{serving, serveInto, oneAnswered, answerOne};
+ghost use Rattle.lanes.specs.Desk.{goesOn, turning, turnOf, ending, endOf};
 
 // Why serving stopped: fewer bytes than a call record are left, bytes that are no call, or no room for one more answer.
 pub enum Stop {
@@ -151,4 +152,77 @@ fn last_stop(whole: usize, records: usize) -> Stop
         return Stop::End;
     }
     Stop::Room
+}
+
+// What one turn of the desk came to: the new record, how many bytes are left at the front, how many were written, and why it stopped.
+pub struct Turned {
+    pub board: Board,
+    pub left: usize,
+    pub written: usize,
+    pub stop: Stop,
+}
+
+// One turn of the desk: serves the first `have` bytes, and moves what is left of them to the front.
+pub fn turn(
+    board: Board,
+    cells: &mut [u32],
+    bytes: &mut [u8],
+    have: usize,
+    answers: &mut [u8],
+) -> Turned
+    ensures { λ r. ⌜ turning r (now (cells .exit)) (now (bytes .exit)) (now (answers .exit))
+        ≡ turnOf board (now (cells .entry)) (now (bytes .entry)) have (now (answers .entry)) ⌝ }
+{
+    let to = least(have, bytes.len());
+    let s = serve(board, cells, &bytes[..to], answers);
+    let left = carry(bytes, s.taken, to);
+    let next = s.board;
+    let stop = s.stop;
+    Turned {
+        board: next,
+        left: left,
+        written: s.written,
+        stop: stop,
+    }
+}
+
+// Whether the desk goes on to more input after such a stop.
+pub fn goes_on(stop: Stop) -> bool
+    ensures { λ r. ⌜ r ≡ goesOn stop ⌝ }
+{
+    match stop {
+        Stop::End => true,
+        Stop::Record => false,
+        Stop::Room => false,
+    }
+}
+
+// Moves the bytes from one index up to another to the front, and says how many they are.
+fn carry(bytes: &mut [u8], from: usize, to: usize) -> usize
+    requires { ⌜ (from ≤ to) × (to ≤ length (now bytes)) ⌝ }
+    ensures { λ r. ⌜ (r ≡ to - from) × (now (bytes .exit) ≡ putAt (now (bytes .entry)) 0 (drop from (take to (now (bytes .entry))))) ⌝ }
+{
+    let n = to - from;
+    for i in 0..n {
+        bytes[i] = bytes[from + i];
+    }
+    n
+}
+
+// The end of the input, with so many bytes left: writes RECORD for a cut record, and says how many bytes were written.
+pub fn finish(left: usize, answers: &mut [u8]) -> usize
+    ensures { λ r. ⌜ ending r (now (answers .exit)) ≡ endOf left (now (answers .entry)) ⌝ }
+{
+    if left == 0 {
+        return 0;
+    }
+    if answers.len() < ANSWER_BYTES {
+        return 0;
+    }
+    let reply = Reply {
+        place: 0,
+        answer: Answer::Record,
+    };
+    records::write_answer(answers, 0, reply);
+    ANSWER_BYTES
 }

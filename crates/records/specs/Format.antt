@@ -84,7 +84,7 @@ sameBytes [] (b ∷ bs) = false
 sameBytes (a ∷ bs) [] = false
 sameBytes (a ∷ bs) (b ∷ cs) = eqb a b && sameBytes bs cs
 
--- the calls with a place, a key and a value in the order of their kinds; at 0, which is no kind, one whose record has another
+-- the calls with a place, a key and a value in the order of their kinds; 0 is no kind, and gets one whose record has another
 abbrev pub callsOf : ℕ → ℕ → ℕ → List Call
 callsOf place key value =
     Call.Rollback place ∷ (Call.Start place ∷ (Call.Read place key ∷ (Call.Update place key value ∷
@@ -124,6 +124,7 @@ answerIn bs = cond (sameBytes bs (answerRecord (replyFrom bs))) (AnswerRead.Good
 unfoldable pub callAt : List ℕ → ℕ → CallRead
 callAt bs at = callIn (take callBytes (drop at bs))
 
+-- and so for an answer
 unfoldable pub answerAt : List ℕ → ℕ → AnswerRead
 answerAt bs at = answerIn (take answerBytes (drop at bs))
 

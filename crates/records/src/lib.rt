@@ -58,6 +58,15 @@ pub const CALL_BYTES: usize = 10;
 
 pub const ANSWER_BYTES: usize = 8;
 
+// The marks: CL before a call, AN before an answer.
+const MARK_C: u8 = 0x43;
+
+const MARK_L: u8 = 0x4c;
+
+const MARK_A: u8 = 0x41;
+
+const MARK_N: u8 = 0x4e;
+
 // The number that document 01 gives an answer.
 pub fn number(a: Answer) -> u8
     ensures { λ r. ⌜ r ≡ numberOf a ⌝ }
@@ -118,6 +127,55 @@ pub fn place_of(c: Call) -> u32
     }
 }
 
+// Takes the call record at an offset.
+pub fn read_call(bytes: &[u8], at: usize) -> CallRead
+    ensures { λ r. ⌜ r ≡ callAt (now (bytes .entry)) at ⌝ }
+{
+    if room(bytes.len(), at, CALL_BYTES) {
+        call_in(&bytes[at..])
+    } else {
+        CallRead::Record
+    }
+}
+
+// Takes the answer record at an offset.
+pub fn read_answer(bytes: &[u8], at: usize) -> AnswerRead
+    ensures { λ r. ⌜ r ≡ answerAt (now (bytes .entry)) at ⌝ }
+{
+    if room(bytes.len(), at, ANSWER_BYTES) {
+        answer_in(&bytes[at..])
+    } else {
+        AnswerRead::Record
+    }
+}
+
+// Writes a call's record from an offset: OK with 0, or RECORD with every byte as it was.
+pub fn write_call(bytes: &mut [u8], at: usize, call: Call) -> Answer
+    ensures { λ r. ⌜ wrote r (now (bytes .exit)) ≡ writtenCall (now (bytes .entry)) at call ⌝ }
+{
+    let fits = goes_in(place_of(call), key_of(call), new_value_of(call));
+    if fits & room(bytes.len(), at, CALL_BYTES) {
+        put_call(&mut bytes[at..], call);
+        Answer::Ok(0)
+    } else {
+        Answer::Record
+    }
+}
+
+// Writes an answer's record from an offset: OK with 0, or RECORD with every byte as it was.
+pub fn write_answer(bytes: &mut [u8], at: usize, reply: Reply) -> Answer
+    ensures { λ r. ⌜ wrote r (now (bytes .exit)) ≡ writtenAnswer (now (bytes .entry)) at reply ⌝ }
+{
+    let answer = reply.answer;
+    let fits = goes_in(reply.place, 0, value(answer));
+    if fits & room(bytes.len(), at, ANSWER_BYTES) {
+        put_answer(&mut bytes[at..], reply);
+        Answer::Ok(0)
+    } else {
+        Answer::Record
+    }
+}
+
 // The kind of a call in its record.
 fn kind_of(c: Call) -> u8
     ensures { λ r. ⌜ r ≡ kindOf c ⌝ }
@@ -172,55 +230,6 @@ fn new_value_of(c: Call) -> u32
     }
 }
 
-// Takes the call record at an offset.
-pub fn read_call(bytes: &[u8], at: usize) -> CallRead
-    ensures { λ r. ⌜ r ≡ callAt (now (bytes .entry)) at ⌝ }
-{
-    if room(bytes.len(), at, CALL_BYTES) {
-        call_in(&bytes[at..])
-    } else {
-        CallRead::Record
-    }
-}
-
-// Takes the answer record at an offset.
-pub fn read_answer(bytes: &[u8], at: usize) -> AnswerRead
-    ensures { λ r. ⌜ r ≡ answerAt (now (bytes .entry)) at ⌝ }
-{
-    if room(bytes.len(), at, ANSWER_BYTES) {
-        answer_in(&bytes[at..])
-    } else {
-        AnswerRead::Record
-    }
-}
-
-// Writes a call's record from an offset: OK with 0, or RECORD with every byte as it was.
-pub fn write_call(bytes: &mut [u8], at: usize, call: Call) -> Answer
-    ensures { λ r. ⌜ wrote r (now (bytes .exit)) ≡ writtenCall (now (bytes .entry)) at call ⌝ }
-{
-    let fits = goes_in(place_of(call), key_of(call), new_value_of(call));
-    if fits & room(bytes.len(), at, CALL_BYTES) {
-        put_call(&mut bytes[at..], call);
-        Answer::Ok(0)
-    } else {
-        Answer::Record
-    }
-}
-
-// Writes an answer's record from an offset: OK with 0, or RECORD with every byte as it was.
-pub fn write_answer(bytes: &mut [u8], at: usize, reply: Reply) -> Answer
-    ensures { λ r. ⌜ wrote r (now (bytes .exit)) ≡ writtenAnswer (now (bytes .entry)) at reply ⌝ }
-{
-    let answer = reply.answer;
-    let fits = goes_in(reply.place, 0, value(answer));
-    if fits & room(bytes.len(), at, ANSWER_BYTES) {
-        put_answer(&mut bytes[at..], reply);
-        Answer::Ok(0)
-    } else {
-        Answer::Record
-    }
-}
-
 // Whether there are so many bytes from an offset on.
 fn room(len: usize, at: usize, bytes: usize) -> bool
     ensures { λ r. ⌜ r ≡ leb (at + bytes) len ⌝ }
@@ -243,7 +252,7 @@ fn put_call(s: &mut [u8], call: Call)
     requires { ⌜ callBytes ≤ length (now s) ⌝ }
     ensures { λ r. ⌜ now (s .exit) ≡ putAt (now (s .entry)) 0 (callRecord call) ⌝ }
 {
-    put_head(s, 0x43, 0x4c, kind_of(call), place_of(call));
+    put_head(s, MARK_C, MARK_L, kind_of(call), place_of(call));
     put_two(&mut s[4..], key_of(call));
     put_four(&mut s[6..], new_value_of(call));
 }
@@ -254,7 +263,7 @@ fn put_answer(s: &mut [u8], reply: Reply)
     ensures { λ r. ⌜ now (s .exit) ≡ putAt (now (s .entry)) 0 (answerRecord reply) ⌝ }
 {
     let answer = reply.answer;
-    put_head(s, 0x41, 0x4e, number(answer), reply.place);
+    put_head(s, MARK_A, MARK_N, number(answer), reply.place);
     put_four(&mut s[4..], value(answer));
 }
 
@@ -308,7 +317,7 @@ fn call_in(s: &[u8]) -> CallRead
     let key = two(s, 4);
     let value = four(s, 6);
     let call = call_of(kind, place, key, value);
-    if marked(s, 0x43, 0x4c) & call_named(call, kind, key, value) {
+    if marked(s, MARK_C, MARK_L) & call_named(call, kind, key, value) {
         CallRead::Good(call)
     } else {
         CallRead::Record
@@ -324,7 +333,7 @@ fn answer_in(s: &[u8]) -> AnswerRead
     let place = wide(s[3]);
     let val = four(s, 4);
     let answer = answer_of(no, val);
-    if marked(s, 0x41, 0x4e) & answer_named(answer, no, val) {
+    if marked(s, MARK_A, MARK_N) & answer_named(answer, no, val) {
         AnswerRead::Good(Reply {
             place: place,
             answer: answer,
@@ -411,7 +420,9 @@ fn two(s: &[u8], at: usize) -> u32
     requires { ⌜ at + 2 ≤ length (now s) ⌝ }
     ensures { λ r. ⌜ (r ≡ numberIn (take 2 (drop at (now (s .entry))))) × (r < 65536) ⌝ }
 {
-    wide(s[at]) + 256 * wide(s[at + 1])
+    let first = wide(s[at]);
+    let second = wide(s[at + 1]);
+    first + 256 * second
 }
 
 // A byte as a number.

@@ -31,18 +31,21 @@ isIdle State.Open = false
 isIdle State.Spoiled = false
 isIdle State.Prepared = false
 
+-- its state is open
 abbrev pub isOpen : State → Bool
 isOpen State.Idle = false
 isOpen State.Open = true
 isOpen State.Spoiled = false
 isOpen State.Prepared = false
 
+-- or spoiled
 abbrev pub isSpoiled : State → Bool
 isSpoiled State.Idle = false
 isSpoiled State.Open = false
 isSpoiled State.Spoiled = true
 isSpoiled State.Prepared = false
 
+-- or prepared
 abbrev pub isPrepared : State → Bool
 isPrepared State.Idle = false
 isPrepared State.Open = false

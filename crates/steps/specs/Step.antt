@@ -27,6 +27,7 @@ pub record Outcome : Type 0 where
   pub board : Board
   pub words : List ℕ
 
+-- an answer by its number and value, the record and the words
 abbrev pub answered : Answer → Board → List ℕ → Outcome
 answered a b ws = record { number = numberOf a; value = valueOf a; board = b; words = ws }
 
@@ -42,10 +43,11 @@ withPlace b p new = record { places = set (b .places) p new; starts = b .starts;
 abbrev pub inState : State → Place → Place
 inState s p = record { state = s; number = p .number; view = p .view }
 
--- T's number, V, and the cells
+-- T is the caller's transaction: its number
 abbrev pub numberAt : Board → ℕ → ℕ
 numberAt b p = placeAt b p .number
 
+-- V its view
 abbrev pub viewAt : Board → ℕ → ℕ
 viewAt b p = placeAt b p .view
 

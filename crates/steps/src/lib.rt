@@ -43,12 +43,16 @@ pub struct Answered {
 }
 
 impl Board {
+    // Places 0 to 15.
     pub const PLACES: usize = 16;
 
+    // Keys 0 to 255.
     pub const KEYS: u32 = 256;
 
+    // 1 to 1,024 cells.
     pub const CELLS: usize = 1024;
 
+    // The start count is at most 4,000,000,000.
     pub const STARTS: u32 = 4_000_000_000;
 
     // The fresh record.
@@ -313,6 +317,7 @@ impl Place {
         }
     }
 
+    // No transaction is here.
     pub fn is_idle(self) -> bool
         ensures { λ r. ⌜ r ≡ isIdle (self .state) ⌝ }
     {
@@ -325,6 +330,7 @@ impl Place {
         }
     }
 
+    // The transaction here may do anything.
     pub fn is_open(self) -> bool
         ensures { λ r. ⌜ r ≡ isOpen (self .state) ⌝ }
     {
@@ -337,6 +343,7 @@ impl Place {
         }
     }
 
+    // The transaction here met a conflict, and can only roll back.
     pub fn is_spoiled(self) -> bool
         ensures { λ r. ⌜ r ≡ isSpoiled (self .state) ⌝ }
     {
@@ -349,6 +356,7 @@ impl Place {
         }
     }
 
+    // The transaction here can only commit or roll back.
     pub fn is_prepared(self) -> bool
         ensures { λ r. ⌜ r ≡ isPrepared (self .state) ⌝ }
     {

@@ -1,6 +1,6 @@
 use borrow.Author.Needs.{needs}
 use mathlib.Core.Path.{_≡_, sym, ap, _∙_}
-use mathlib.Core.Bool.{Bool, true, false, _&&_}
+use mathlib.Core.Bool.{true, false, _&&_}
 use Prim.Native.Nat.{_+_, _-_, _≤_}
 use lib.Dec.{ltb}
 use lib.ListN.{getD, drop}
@@ -13,7 +13,8 @@ use Rattle.cells.proofs.newest_seen.Tie as tie
 
 abbrev Inv-loop : tie.InvT-loop
 Inv-loop cells key view n best₀ i₀ best i =
-    (i ≤ n) × (newest (visible key view) noCell (cellsOf cells) ≡ newest (visible key view) best (drop i (cellsOf cells)))
+    (i ≤ n)
+    × (newest (visible key view) noCell (cellsOf cells) ≡ newest (visible key view) best (drop i (cellsOf cells)))
 
 abbrev μ-loop : tie.MeasureT-loop
 μ-loop cells key view n best₀ i₀ best i = n - i
@@ -41,15 +42,17 @@ loop-less c = search needs
 
 loop-again : tie.Need-loop-again Inv-loop μ-loop
 loop-again c =
-    let l = c .before .before .before .before .before .before in
+    let read = c .before .before .before .before in
+    let l = read .before .before in
     let s = l .before .before .before .before .args in
+    let ws = s .cells .now in
     let p = visible (s .key) (s .view) in
-    let x = getD (cellsOf (s .cells .now)) (l .loop .i) noCell in
+    let x = getD (cellsOf ws) (l .loop .i) noCell in
     let e : (p x && ltb (l .loop .best .commit) (x .commit)) ≡ true = cc in (
       search needs,
       l .loop .inv .1
-          ∙ newest-turn (s .cells .now) (l .loop .i) (search needs) p (l .loop .best) true e
-          ∙ ap (λ (d : Cell). newest p d (drop (l .loop .i + 1) (cellsOf (s .cells .now)))) (sym (c .before .before .before .before .cell-at .ensures)),
+          ∙ newest-turn ws (l .loop .i) (search needs) p (l .loop .best) true e
+          ∙ ap (λ (d : Cell). newest p d (drop (l .loop .i + 1) (cellsOf ws))) (sym (read .cell-at .ensures)),
     )
 
 loop-less-2 : tie.Need-loop-less-2 Inv-loop μ-loop
@@ -59,10 +62,11 @@ loop-again-2 : tie.Need-loop-again-2 Inv-loop μ-loop
 loop-again-2 c =
     let l = c .before .before .before .before .before .before in
     let s = l .before .before .before .before .args in
+    let ws = s .cells .now in
     let p = visible (s .key) (s .view) in
-    let x = getD (cellsOf (s .cells .now)) (l .loop .i) noCell in
+    let x = getD (cellsOf ws) (l .loop .i) noCell in
     let e : (p x && ltb (l .loop .best .commit) (x .commit)) ≡ false = cc in
-    (search needs, l .loop .inv .1 ∙ newest-turn (s .cells .now) (l .loop .i) (search needs) p (l .loop .best) false e)
+    (search needs, l .loop .inv .1 ∙ newest-turn ws (l .loop .i) (search needs) p (l .loop .best) false e)
 
 returns : tie.Need-returns Inv-loop μ-loop
 unfolding newestSeen

@@ -3,6 +3,7 @@ use mathlib.Core.Bool.{Bool, true, false, cond, _&&_}
 use native.Mathlib.Omega.{arith}
 use lib.ListN.{take}
 use Rattle.records.specs.declared.AnswerRead.{AnswerRead}
+use Rattle.records.specs.declared.Reply.{Reply}
 use Rattle.records.specs.Format.{answerIn}
 use Rattle.records.proofs.Fields.{answer-found}
 use borrow.Author.Needs.{needs}
@@ -30,16 +31,21 @@ marked-requires c κs = search needs
 answer-named-requires : tie.Need-answer-named-requires
 answer-named-requires c κs = search needs
 
+-- the way back: the fields are read, then the function began
+abbrev read : tie.After-answer-named → tie.After-four
+read c = c .before .before .before
+
+abbrev entry : tie.After-answer-named → tie.Start
+entry c = read c .before .before .before .before .before
+
+abbrev reply : tie.After-answer-named → Reply
+reply c = record { place = read c .before .wide .result; answer = c .before .before .answer-of .result }
+
 found : (c : tie.After-answer-named) (t : Bool) → (c .before .marked .result && c .answer-named .result) ≡ t →
-    cond t
-    (AnswerRead.Good (record { place = c .before .before .before .before .wide .result; answer = c .before .before .answer-of .result }))
-    AnswerRead.Record
-    ≡ answerIn (take 8 (c .before .before .before .before .before .before .before .before .args .s .now))
+    cond t (AnswerRead.Good (reply c)) AnswerRead.Record ≡ answerIn (take 8 (entry c .args .s .now))
 found c t told =
-    let fields = c .before .before .before in
-    let start = fields .before .before .before .before .before in
-    answer-found (start .args .s .now) (λ i. omega (arith, fields .before .before .shared-slice-known3 .given i)) (start .pre)
-    (fields .four .ensures) (fields .before .wide .ensures .0) (c .before .before .answer-of .ensures)
+    answer-found (entry c .args .s .now) (λ i. omega (arith, read c .before .before .shared-slice-known3 .given i))
+    (entry c .pre) (read c .four .ensures) (read c .before .wide .ensures .0) (c .before .before .answer-of .ensures)
     (c .before .marked .ensures) (c .answer-named .ensures) told
 
 returns : tie.Need-returns

@@ -33,15 +33,19 @@ marked-requires c κs = search needs
 call-named-requires : tie.Need-call-named-requires
 call-named-requires c κs = search needs
 
+-- the way back: the fields are read, then the function began
+abbrev read : tie.After-call-named → tie.After-four
+read c = c .before .before .before
+
+abbrev entry : tie.After-call-named → tie.Start
+entry c = read c .before .before .before .before .before .before
+
 found : (c : tie.After-call-named) (t : Bool) → (c .before .marked .result && c .call-named .result) ≡ t →
-    cond t (CallRead.Good (c .before .before .call-of .result)) CallRead.Record
-    ≡ callIn (take 10 (c .before .before .before .before .before .before .before .before .before .args .s .now))
+    cond t (CallRead.Good (c .before .before .call-of .result)) CallRead.Record ≡ callIn (take 10 (entry c .args .s .now))
 found c t told =
-    let fields = c .before .before .before in
-    let start = fields .before .before .before .before .before .before in
-    call-found (start .args .s .now) (λ i. omega (arith, fields .before .before .before .shared-slice-known3 .given i)) (start .pre)
-    (fields .before .two .ensures .0) (fields .four .ensures) (fields .before .before .wide .ensures .0) (c .before .before .call-of .ensures)
-    (c .before .marked .ensures) (c .call-named .ensures) told
+    call-found (entry c .args .s .now) (λ i. omega (arith, read c .before .before .before .shared-slice-known3 .given i))
+    (entry c .pre) (read c .before .two .ensures .0) (read c .four .ensures) (read c .before .before .wide .ensures .0)
+    (c .before .before .call-of .ensures) (c .before .marked .ensures) (c .call-named .ensures) told
 
 returns : tie.Need-returns
 returns c = found (c .before) true (c .if1 .taken)

@@ -1,4 +1,4 @@
-use Rattle.records.proofs.Bytes.{number-four}
+use Rattle.records.proofs.Bytes.{bytes-four}
 use borrow.Author.Needs.{needs}
 use Rattle.records.proofs.four.Statement.{statement}
 use Rattle.records.proofs.four.Tie as tie
@@ -19,7 +19,7 @@ add-result : tie.Need-add-result
 add-result c = search needs
 
 returns : tie.Need-returns
-returns c = number-four _ _ _ _ (c .before .before .before .pre) (c .before .two .ensures .0) (c .two2 .ensures .0)
+returns c = bytes-four _ _ _ _ (c .before .before .before .pre) (c .before .two .ensures .0) (c .two2 .ensures .0)
 
 pub four-spec : {M : Type 1} → statement M
 four-spec = tie.close (tie.spec two-requires add-two two-requires-2 mul-result add-result returns)

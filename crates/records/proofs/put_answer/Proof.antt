@@ -1,8 +1,8 @@
-use mathlib.Core.Path.{_≡_, refl, ap, _∙_}
+use mathlib.Core.Path.{refl, _∙_}
 use Prim.Native.Nat.{ℕ}
-use mathlib.Core.List.{List, [], _∷_}
+use mathlib.Core.List.{List, _∷_}
 use native.Mathlib.Omega.{arith}
-use Rattle.records.specs.Format.{bytesOf, putAt, answerRecord}
+use Rattle.records.specs.Format.{bytesOf, answerRecord}
 use Rattle.records.proofs.Bytes.{lent-next}
 use borrow.Author.Needs.{needs}
 use Rattle.records.proofs.put_answer.Statement.{statement}
@@ -35,13 +35,13 @@ same-length c = search needs
 returns : tie.Need-returns
 unfolding answerRecord
 returns c =
-    let start = c .before .before .before .before .before .before .before .before .before .before .before in
-    let a = start .args in
-    let number = c .before .before .before .before .before .before .before .before .number in
+    let first = c .before .before .before .before .before .before .before in
+    let start = first .before .before .before .before in
+    let number = first .before .number in
     let value = c .before .before .before .value in
-    let head : List ℕ = 0x41 ∷ (0x4E ∷ (number .result ∷ bytesOf 1 (a .reply .place))) in
-    lent-next (a .s .now) head (bytesOf 4 (value .result)) 4 refl (omega (arith, start .pre))
-    (c .before .before .before .before .before .before .before .put-head .ensures) (c .before .before .put-four .ensures)
+    let head : List ℕ = 0x41 ∷ (0x4E ∷ (number .result ∷ bytesOf 1 (start .args .reply .place))) in
+    lent-next (start .args .s .now) head (bytesOf 4 (value .result)) 4 refl (omega (arith, start .pre))
+    (first .put-head .ensures) (c .before .before .put-four .ensures)
     ∙ cc (number .ensures, value .ensures)
 
 pub put-answer-spec : {M : Type 1} → statement M

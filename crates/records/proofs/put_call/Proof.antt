@@ -1,8 +1,8 @@
-use mathlib.Core.Path.{_≡_, refl, ap, _∙_}
+use mathlib.Core.Path.{refl, _∙_}
 use Prim.Native.Nat.{ℕ}
-use mathlib.Core.List.{List, [], _∷_, _++_}
+use mathlib.Core.List.{List, _∷_, _++_}
 use native.Mathlib.Omega.{arith}
-use Rattle.records.specs.Format.{bytesOf, putAt, callRecord}
+use Rattle.records.specs.Format.{bytesOf, callRecord}
 use Rattle.records.proofs.Bytes.{lent-next}
 use borrow.Author.Needs.{needs}
 use Rattle.records.proofs.put_call.Statement.{statement}
@@ -53,17 +53,18 @@ same-length c = search needs
 returns : tie.Need-returns
 unfolding callRecord
 returns c =
-    let start = c .before .before .before .before .before .before .before .before .before .before .before .before .before .before .before .before .before in
-    let a = start .args in
-    let kind = c .before .before .before .before .before .before .before .before .before .before .before .before .before .before .kind-of in
-    let place = c .before .before .before .before .before .before .before .before .before .before .before .before .before .place-of in
-    let key = c .before .before .before .before .before .before .before .before .key-of in
+    let second = c .before .before .before .before .before .before .before in
+    let first = second .before .before .before .before .before in
+    let start = first .before .before .before .before .before in
+    let kind = first .before .before .kind-of in
+    let place = first .before .place-of in
+    let key = second .before .key-of in
     let value = c .before .before .before .new-value-of in
     let head : List ℕ = 0x43 ∷ (0x4C ∷ (kind .result ∷ bytesOf 1 (place .result))) in
-    lent-next (a .s .now) (head ++ bytesOf 2 (key .result)) (bytesOf 4 (value .result)) 6 refl (omega (arith, start .pre))
-    (lent-next (a .s .now) head (bytesOf 2 (key .result)) 4 refl (omega (arith, start .pre))
-    (c .before .before .before .before .before .before .before .before .before .before .before .before .put-head .ensures) (c .before .before .before .before .before .before .before .put-two .ensures))
-    (c .before .before .put-four .ensures)
+    let keyed = lent-next (start .args .s .now) head (bytesOf 2 (key .result)) 4 refl (omega (arith, start .pre))
+    (first .put-head .ensures) (second .put-two .ensures) in
+    lent-next (start .args .s .now) (head ++ bytesOf 2 (key .result)) (bytesOf 4 (value .result)) 6 refl
+    (omega (arith, start .pre)) keyed (c .before .before .put-four .ensures)
     ∙ cc (kind .ensures, place .ensures, key .ensures, value .ensures)
 
 pub put-call-spec : {M : Type 1} → statement M

@@ -1,9 +1,7 @@
-use mathlib.Core.Path.{ap, _∙_}
-use Prim.Native.Nat.{ℕ}
-use mathlib.Core.List.{List, [], _∷_}
+use mathlib.Core.Path.{_∙_}
+use mathlib.Core.List.{[], _∷_}
 use native.Mathlib.Omega.{arith}
 use lib.ListN.{length-set}
-use Rattle.records.specs.Format.{putAt}
 use Rattle.records.proofs.Bytes.{put-stores}
 use borrow.Author.Needs.{needs}
 use Rattle.records.proofs.put_four.Statement.{statement}
@@ -38,10 +36,13 @@ same-length c = search needs
 
 returns : tie.Need-returns
 returns c =
-    let start = c .before .before .before .before .before in
-    put-stores (c .before .before .before .low .result ∷ (c .before .before .low2 .result ∷ (c .before .low3 .result ∷ (c .low4 .result ∷ []))))
+    let third = c .before in
+    let second = third .before in
+    let first = second .before in
+    let start = first .before .before in
+    put-stores (first .low .result ∷ (second .low2 .result ∷ (third .low3 .result ∷ (c .low4 .result ∷ []))))
     (start .args .s .now) (start .pre)
-    ∙ cc (c .before .before .before .low .ensures, c .before .before .low2 .ensures, c .before .low3 .ensures, c .low4 .ensures)
+    ∙ cc (first .low .ensures, second .low2 .ensures, third .low3 .ensures, c .low4 .ensures)
 
 pub put-four-spec : {M : Type 1} → statement M
 put-four-spec =

@@ -1,9 +1,5 @@
-use mathlib.Core.Path.{ap, _∙_}
-use Prim.Native.Nat.{ℕ}
-use mathlib.Core.List.{List, [], _∷_}
-use native.Mathlib.Omega.{arith}
-use lib.ListN.{length-set}
-use Rattle.records.specs.Format.{putAt}
+use mathlib.Core.Path.{_∙_}
+use mathlib.Core.List.{[], _∷_}
 use Rattle.records.proofs.Bytes.{put-stores}
 use borrow.Author.Needs.{needs}
 use Rattle.records.proofs.put_two.Statement.{statement}

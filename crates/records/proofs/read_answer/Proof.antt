@@ -1,12 +1,12 @@
-use mathlib.Core.Path.{_≡_, sym, ap, _∙_}
+use mathlib.Core.Path.{sym, ap, _∙_}
 use mathlib.Core.List.{List}
-use Prim.Native.Nat.{ℕ, _+_, _≤_, _<_}
+use Prim.Native.Nat.{ℕ, _+_, _≤_}
 use native.Mathlib.Omega.{arith}
 use borrow.Author.Tests.{leb-true, leb-false}
-use lib.ListN.{length, take, length-take, length-drop}
+use lib.ListN.{length, take, length-drop}
 use Rattle.records.specs.Format.{answerIn, answerAt}
 use Rattle.records.proofs.Bytes.{part-rest}
-use Rattle.records.proofs.Fields.{answer-short}
+use Rattle.records.proofs.RoundTrip.{answers}
 use borrow.Author.Needs.{needs}
 use Rattle.records.proofs.read_answer.Statement.{statement}
 use Rattle.records.proofs.read_answer.Tie as tie
@@ -36,7 +36,7 @@ returns c =
     c .answer-in .ensures ∙ ap (λ (l : List ℕ). answerIn (take 8 l)) (part-rest (a .bytes .now) (a .at))
 
 returns-2 : tie.Need-returns-2
-returns-2 c = sym (answer-short _ _ (leb-false _ _ (sym (c .before .room .ensures) ∙ c .if1 .left)))
+returns-2 c = sym (answers .short _ _ (leb-false _ _ (sym (c .before .room .ensures) ∙ c .if1 .left)))
 
 pub read-answer-spec : {M : Type 1} → statement M
 read-answer-spec =

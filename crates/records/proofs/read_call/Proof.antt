@@ -1,12 +1,12 @@
-use mathlib.Core.Path.{_≡_, sym, ap, _∙_}
+use mathlib.Core.Path.{sym, ap, _∙_}
 use mathlib.Core.List.{List}
-use Prim.Native.Nat.{ℕ, _+_, _≤_, _<_}
+use Prim.Native.Nat.{ℕ, _+_, _≤_}
 use native.Mathlib.Omega.{arith}
 use borrow.Author.Tests.{leb-true, leb-false}
-use lib.ListN.{length, take, length-take, length-drop}
+use lib.ListN.{length, take, length-drop}
 use Rattle.records.specs.Format.{callIn, callAt}
 use Rattle.records.proofs.Bytes.{part-rest}
-use Rattle.records.proofs.Fields.{call-short}
+use Rattle.records.proofs.RoundTrip.{calls}
 use borrow.Author.Needs.{needs}
 use Rattle.records.proofs.read_call.Statement.{statement}
 use Rattle.records.proofs.read_call.Tie as tie
@@ -36,7 +36,7 @@ returns c =
     c .call-in .ensures ∙ ap (λ (l : List ℕ). callIn (take 10 l)) (part-rest (a .bytes .now) (a .at))
 
 returns-2 : tie.Need-returns-2
-returns-2 c = sym (call-short _ _ (leb-false _ _ (sym (c .before .room .ensures) ∙ c .if1 .left)))
+returns-2 c = sym (calls .short _ _ (leb-false _ _ (sym (c .before .room .ensures) ∙ c .if1 .left)))
 
 pub read-call-spec : {M : Type 1} → statement M
 read-call-spec =

@@ -1,6 +1,6 @@
 use native.Mathlib.Omega.{arith}
 use mathlib.Core.Path.{sym}
-use Prim.Native.Nat.{_+_, _-_, _≤_, _<_}
+use Prim.Native.Nat.{_+_, _-_, _<_}
 use borrow.Author.Tests.{lt-leb}
 use Rattle.records.proofs.Bytes.{leb-left}
 use Rattle.records.proofs.room.Statement.{statement}

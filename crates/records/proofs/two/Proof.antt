@@ -1,5 +1,5 @@
 use native.Mathlib.Omega.{arith}
-use Rattle.records.proofs.Bytes.{number-two}
+use Rattle.records.proofs.Bytes.{bytes-two}
 use borrow.Author.Needs.{needs}
 use Rattle.records.proofs.two.Statement.{statement}
 use Rattle.records.proofs.two.Tie as tie
@@ -26,10 +26,11 @@ add-result : tie.Need-add-result
 add-result c = search needs
 
 returns : tie.Need-returns
-returns c = (
-  number-two _ _ _ _ (c .before .before .before .before .before .pre) (c .before .before .wide .ensures .0) (c .wide2 .ensures .0),
-  omega (arith, c .before .before .wide .ensures .1, c .wide2 .ensures .1),
-)
+returns c =
+    let start = c .before .before .before .before .before in
+    let first = c .before .before .wide in
+    let second = c .wide2 in
+    (bytes-two _ _ _ _ (start .pre) (first .ensures .0) (second .ensures .0), omega (arith, first .ensures .1, second .ensures .1))
 
 pub two-spec : {M : Type 1} → statement M
 two-spec =

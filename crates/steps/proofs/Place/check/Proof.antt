@@ -1,10 +1,10 @@
 -- `Place::check` meets its contract: the tests are made in the order of document 01's checks 3 to 8.
 -- Assumes nothing.
 use mathlib.Core.Path.{_≡_}
-use mathlib.Core.Bool.{true, false}
+use mathlib.Core.Bool.{false}
 use borrow.Author.Needs.{needs}
 use borrow.Author.Tests.{le-leb, lt-leb}
-use Rattle.steps.specs.Check.{placeCheck, givenBusy, givenIdle, givenWorn, givenSpoiled, givenHeld, givenKey}
+use Rattle.steps.specs.Check.{placeCheck, givenBusy, givenIdle, givenWorn, givenSpoiled, givenHeld}
 use Rattle.steps.proofs.Place.check.Statement.{statement}
 use Rattle.steps.proofs.Place.check.Tie as tie
 

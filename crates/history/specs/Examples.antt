@@ -1,0 +1,130 @@
+-- Closed histories: cases 2, 5 and 9 of document 01, and stores that cheat.
+-- Assumes nothing.
+use mathlib.Core.Path.{_≡_}
+use mathlib.Core.Bool.{Bool, true, not, _&&_}
+use mathlib.Core.List.{List, [], _∷_, _++_, map}
+use lib.Dec.{eqb}
+use Rattle.records.specs.declared.Call.{Call}
+use Rattle.records.specs.declared.Answer.{Answer}
+use Rattle.records.specs.Answers.{numberOf, valueOf}
+use Rattle.steps.specs.Situations.{Turn, _gives_, Situation, firstCommit}
+use Rattle.history.specs.History.{Pair, answeredBy, Ledger, newLedger, note, ledger, fromFresh}
+use Rattle.history.specs.Verdict.{verdict}
+
+-- a call and what comes back, as a pair
+abbrev pub pairOf : Turn → Pair
+pairOf t = answeredBy (t .call) (numberOf (t .answer)) (valueOf (t .answer))
+
+-- the situation's history is the one that document 01 tells
+abbrev pub AsTold : Situation → Type 0
+AsTold s = fromFresh (s .cells) (map (λ (t : Turn). t .call) (s .turns)) .pairs ≡ map pairOf (s .turns)
+
+-- CHEATS
+
+abbrev pub sameAnswer : Answer → Answer → Bool
+sameAnswer a c = eqb (numberOf a) (numberOf c) && eqb (valueOf a) (valueOf c)
+
+-- every answer is the verdict of the pairs before it
+abbrev pub judged : Ledger → List Turn → Bool
+judged L [] = true
+judged L (t ∷ ts) =
+    sameAnswer (verdict L (t .call)) (t .answer) && judged (note L (t .call) (numberOf (t .answer)) (valueOf (t .answer))) ts
+
+-- a history, the next call, what the cheating store answers, and what is due
+pub record Cheat : Type 0 where
+  pub before : List Turn
+  pub call : Call
+  pub cheating : Answer
+  pub right : Answer
+
+-- nothing was wrong before; the verdict is the right answer, and the cheating one is not
+abbrev pub caught : Cheat → Bool
+caught c =
+    judged newLedger (c .before)
+    && sameAnswer (verdict (ledger (map pairOf (c .before))) (c .call)) (c .right)
+    && not (sameAnswer (c .cheating) (c .right))
+
+abbrev pub allCaught : List Cheat → Bool
+allCaught [] = true
+allCaught (c ∷ cs) = caught c && allCaught cs
+
+-- testing for conflict at commit against views alone: two unfinished writers then share a key
+abbrev pub viewsAlone : Cheat
+viewsAlone =
+    record {
+      before = Call.Start 0 gives Answer.Ok 1 ∷ Call.Start 1 gives Answer.Ok 2 ∷ Call.Update 0 5 1 gives Answer.Ok 0 ∷ [];
+      call = Call.Update 1 5 2;
+      cheating = Answer.Ok 0;
+      right = Answer.Conflict;
+    }
+
+-- taking the newest committed value at each read, which makes case 2 show 12
+abbrev pub newestAtEachRead : Cheat
+newestAtEachRead =
+    record {
+      before =
+          Call.Start 0 gives Answer.Ok 1
+          ∷ Call.Update 0 7 12 gives Answer.Ok 0
+          ∷ Call.Start 1 gives Answer.Ok 2
+          ∷ Call.Read 1 7 gives Answer.Ok 0
+          ∷ Call.Commit 0 gives Answer.Ok 1
+          ∷ [];
+      call = Call.Read 1 7;
+      cheating = Answer.Ok 12;
+      right = Answer.Ok 0;
+    }
+
+-- reusing any version that isn't the newest: case 9 then reads 0 at place 5
+abbrev pub anyOldVersion : Cheat
+anyOldVersion =
+    record {
+      before =
+          firstCommit
+          ++ Call.Start 5 gives Answer.Ok 2
+          ∷ Call.Start 0 gives Answer.Ok 3
+          ∷ Call.Update 0 0 2 gives Answer.Ok 0
+          ∷ Call.Commit 0 gives Answer.Ok 2
+          ∷ Call.Start 0 gives Answer.Ok 4
+          ∷ Call.Update 0 0 3 gives Answer.Ok 0
+          ∷ [];
+      call = Call.Read 5 0;
+      cheating = Answer.Ok 0;
+      right = Answer.Ok 1;
+    }
+
+-- dropping a rolled-back writer's words only in its first cell, so a second key stays blocked
+abbrev pub firstCellOnly : Cheat
+firstCellOnly =
+    record {
+      before =
+          Call.Start 0 gives Answer.Ok 1
+          ∷ Call.Update 0 1 1 gives Answer.Ok 0
+          ∷ Call.Update 0 2 1 gives Answer.Ok 0
+          ∷ Call.Rollback 0 gives Answer.Ok 0
+          ∷ Call.Start 1 gives Answer.Ok 2
+          ∷ Call.Update 1 1 9 gives Answer.Ok 0
+          ∷ [];
+      call = Call.Update 1 2 9;
+      cheating = Answer.Conflict;
+      right = Answer.Ok 0;
+    }
+
+-- one that works for the first transaction and then feigns: it hands out the running numbers, and writes nothing more
+abbrev pub feigning : Cheat
+feigning =
+    record {
+      before =
+          firstCommit
+          ++ Call.Start 0 gives Answer.Ok 2
+          ∷ Call.Update 0 0 2 gives Answer.Ok 0
+          ∷ Call.Commit 0 gives Answer.Ok 2
+          ∷ Call.Start 0 gives Answer.Ok 3
+          ∷ [];
+      call = Call.Read 0 0;
+      cheating = Answer.Ok 1;
+      right = Answer.Ok 2;
+    }
+
+-- the list
+abbrev pub cheats : List Cheat
+cheats = viewsAlone ∷ newestAtEachRead ∷ anyOldVersion ∷ firstCellOnly ∷ feigning ∷ []

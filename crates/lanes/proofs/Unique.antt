@@ -1,0 +1,46 @@
+-- The contracts determine the record, every lent word and byte, how far it got and why it stopped: what a function hands back is the
+-- only thing that meets its contract.
+-- Assumes nothing.
+use Prim.Native.Nat.{ℕ}
+use mathlib.Core.Path.{_≡_, sym, ap, _∙_}
+use mathlib.Core.List.{List}
+use Rattle.records.specs.declared.Call.{Call}
+use Rattle.steps.specs.declared.Board.{Board}
+use Rattle.steps.specs.declared.Answered.{Answered}
+use Rattle.steps.specs.Step.{outcome, step}
+use Rattle.steps.proofs.Unique.{unique}
+use Rattle.lanes.specs.declared.Served.{Served}
+use Rattle.lanes.specs.declared.Turned.{Turned}
+use Rattle.lanes.specs.Serve.{Serving, serving, serveInto}
+use Rattle.lanes.specs.Desk.{Turning, turning, turnOf, Ending, ending, endOf}
+
+pub call-unique : (b : Board) (ws : List ℕ) (call : Call) (r s : Answered) (us vs : List ℕ)
+    → outcome r us ≡ step b ws call → outcome s vs ≡ step b ws call → (r ≡ s) × (us ≡ vs)
+call-unique = unique
+
+pub serve-unique : (b : Board) (ws bytes answers : List ℕ) (r s : Served) (us vs xs ys : List ℕ)
+    → serving r us xs ≡ serveInto b ws bytes answers → serving s vs ys ≡ serveInto b ws bytes answers
+    → (r ≡ s) × (us ≡ vs) × (xs ≡ ys)
+serve-unique b ws bytes answers r s us vs xs ys e f =
+    let same : serving r us xs ≡ serving s vs ys = e ∙ sym f in (
+      λ i. record { board = same i .board; taken = same i .taken; written = same i .written; stop = same i .stop },
+      ap (λ (o : Serving). o .words) same,
+      ap (λ (o : Serving). o .answers) same,
+    )
+
+pub turn-unique : (b : Board) (ws bytes : List ℕ) (have : ℕ) (answers : List ℕ) (r s : Turned) (us vs is js xs ys : List ℕ)
+    → turning r us is xs ≡ turnOf b ws bytes have answers → turning s vs js ys ≡ turnOf b ws bytes have answers
+    → (r ≡ s) × (us ≡ vs) × (is ≡ js) × (xs ≡ ys)
+turn-unique b ws bytes have answers r s us vs is js xs ys e f =
+    let same : turning r us is xs ≡ turning s vs js ys = e ∙ sym f in (
+      λ i. record { board = same i .board; left = same i .left; written = same i .written; stop = same i .stop },
+      ap (λ (o : Turning). o .words) same,
+      ap (λ (o : Turning). o .bytes) same,
+      ap (λ (o : Turning). o .answers) same,
+    )
+
+pub finish-unique : (left : ℕ) (answers : List ℕ) (r s : ℕ) (xs ys : List ℕ)
+    → ending r xs ≡ endOf left answers → ending s ys ≡ endOf left answers → (r ≡ s) × (xs ≡ ys)
+finish-unique left answers r s xs ys e f =
+    let same : ending r xs ≡ ending s ys = e ∙ sym f in
+    (ap (λ (o : Ending). o .written) same, ap (λ (o : Ending). o .answers) same)

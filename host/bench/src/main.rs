@@ -1,0 +1,304 @@
+//! `./lane bench`: the proved board against the twin and WiredTiger, all in one run, as one table with ratios.
+//!
+//! Every peer of a workload first does the same short piece of it, and what it read and refused is compared. Then they
+//! are measured in turn, several times over, and the best of each counts, so that a busy machine disturbs all alike.
+
+use peers::{Peer, Proved, Twin};
+use std::hint::black_box;
+use std::io::{Read, Write};
+use std::path::PathBuf;
+use std::process::{Command, Stdio};
+use std::time::{Duration, Instant};
+use work::{One, Reads, Rng, Sixteen, Work};
+
+mod peers;
+mod work;
+
+/// How often each peer is measured, and for how long at least: many short measurements, since some of them will fall into
+/// a moment in which nothing else runs.
+const PASSES: usize = 25;
+const LONG: Duration = Duration::from_millis(60);
+
+/// A peer at work, with the best rate measured so far.
+struct Runner {
+    name: &'static str,
+    run: Box<dyn FnMut(u64) -> u64>,
+    best: f64,
+}
+
+impl Runner {
+    fn new(name: &'static str, run: impl FnMut(u64) -> u64 + 'static) -> Runner {
+        Runner { name, run: Box::new(run), best: 0.0 }
+    }
+
+    /// One measurement: as many as fit in `LONG`, asked for in growing pieces.
+    fn measure(&mut self) {
+        let (mut done, mut piece) = (0, 16);
+        let begun = Instant::now();
+        while begun.elapsed() < LONG {
+            black_box((self.run)(piece));
+            done += piece;
+            piece = (piece * 2).min(1_024);
+        }
+        self.best = self.best.max(done as f64 / begun.elapsed().as_secs_f64());
+    }
+}
+
+/// The first peer's sum over a short piece must be every peer's; then all are measured in turn.
+fn race(what: &str, runners: &mut [Runner]) {
+    eprintln!("measuring {what} ..");
+    let sums: Vec<u64> = runners.iter_mut().map(|r| (r.run)(2_000)).collect();
+    for (runner, sum) in runners.iter().zip(&sums) {
+        assert_eq!(*sum, sums[0], "{what}: {} reads or refuses something else than {}", runner.name, runners[0].name);
+    }
+    for _ in 0..PASSES {
+        runners.iter_mut().for_each(Runner::measure);
+    }
+}
+
+fn runner(name: &'static str, mut peer: impl Peer + 'static, mut work: impl Work + 'static) -> Runner {
+    Runner::new(name, move |n| work.run(&mut peer, n))
+}
+
+/// The peers of W1 and W2, each with every key written before.
+fn written(work: impl Fn() -> Box<dyn Work>) -> Vec<Runner> {
+    let here: [(&'static str, Box<dyn Peer>); 2] = [("lane", Box::new(proved())), ("twin", Box::new(twin()))];
+    let peers = here.into_iter().chain(wired().map(|peer| ("WiredTiger", peer)));
+    let ready = |(name, mut peer): (&'static str, Box<dyn Peer>)| {
+        work::write_every_key(&mut *peer);
+        let mut work = work();
+        Runner::new(name, move |n| work.run(&mut *peer, n))
+    };
+    peers.map(ready).collect()
+}
+
+/// WiredTiger, where the bench was built with it.
+#[cfg(wiredtiger)]
+fn wired() -> Option<Box<dyn Peer>> {
+    let wired = peers::wired::Wired::open();
+    if wired.is_none() {
+        eprintln!("WiredTiger is installed but did not open");
+    }
+    wired.map(|wired| Box::new(wired) as Box<dyn Peer>)
+}
+
+#[cfg(not(wiredtiger))]
+fn wired() -> Option<Box<dyn Peer>> {
+    None
+}
+
+fn proved() -> Proved {
+    Proved(lane::Board::new(1_024).expect("1,024 cells"))
+}
+
+fn twin() -> Twin {
+    Twin(twin::Board::fresh(1_024))
+}
+
+/// W1 as call records: every key written, then so many transactions.
+fn stream(transactions: u64) -> Vec<u8> {
+    struct Records(Vec<u8>);
+    impl Records {
+        fn put(&mut self, kind: u8, place: u32, key: u32, value: u32) {
+            self.0.extend([0x43, 0x4C, kind, place as u8, key as u8, 0]);
+            self.0.extend(value.to_le_bytes());
+        }
+    }
+    impl Peer for Records {
+        fn start(&mut self, place: u32) {
+            self.put(1, place, 0, 0);
+        }
+        fn read(&mut self, place: u32, key: u32) -> u32 {
+            self.put(2, place, key, 0);
+            0
+        }
+        fn update(&mut self, place: u32, key: u32, value: u32) -> bool {
+            self.put(3, place, key, value);
+            true
+        }
+        fn commit(&mut self, place: u32) {
+            self.put(5, place, 0, 0);
+        }
+        fn rollback(&mut self, place: u32) {
+            self.put(6, place, 0, 0);
+        }
+    }
+    let mut records = Records(Vec::new());
+    work::write_every_key(&mut records);
+    One(Rng::new()).run(&mut records, transactions);
+    records.0
+}
+
+/// What the desk program writes for this input.
+fn desk(input: &[u8]) -> Result<Vec<u8>, String> {
+    let path = PathBuf::from(env!("CARGO_MANIFEST_DIR")).join("../../target/bin/desk");
+    let missing = |e| format!("target/bin/desk: {e}: run `rt check desk` in the root of the repository");
+    let mut desk = Command::new(path).stdin(Stdio::piped()).stdout(Stdio::piped()).spawn().map_err(missing)?;
+    let (mut to, mut from) = (desk.stdin.take().expect("piped"), desk.stdout.take().expect("piped"));
+    let mut output = Vec::new();
+    let read = std::thread::scope(|scope| {
+        scope.spawn(move || to.write_all(input));
+        from.read_to_end(&mut output)
+    });
+    read.map_err(|e| format!("the desk's output: {e}"))?;
+    desk.wait().map_err(|e| format!("the desk: {e}"))?;
+    Ok(output)
+}
+
+/// Calls per second of one way to answer the stream; the output must be the expected one.
+fn rate(input: &[u8], expected: Option<&[u8]>, run: impl Fn(&[u8]) -> Vec<u8>) -> (f64, Vec<u8>) {
+    let mut best = 0f64;
+    let mut output = Vec::new();
+    for _ in 0..3 {
+        let begun = Instant::now();
+        output = run(input);
+        best = best.max((input.len() / 10) as f64 / begun.elapsed().as_secs_f64());
+        assert!(expected.is_none_or(|expected| expected == output), "the desk writes something else than the twin");
+    }
+    (best, output)
+}
+
+/// One plain pass: every word is looked at once. A sum, which the compiler takes several words at a time ..
+fn pass(words: &[u32]) -> u32 {
+    words.iter().fold(0, |sum: u32, &word| sum.wrapping_add(word))
+}
+
+/// .. and a search for a word that is not there, which could stop at each.
+fn pass_that_could_stop(words: &[u32]) -> u32 {
+    words.iter().position(|&word| word == u32::MAX).map_or(0, |_| 1)
+}
+
+fn thousands(n: f64) -> String {
+    let digits = format!("{n:.0}");
+    let mut out = String::new();
+    for (i, digit) in digits.chars().enumerate() {
+        if i > 0 && (digits.len() - i).is_multiple_of(3) {
+            out.push(',');
+        }
+        out.push(digit);
+    }
+    out
+}
+
+struct Row {
+    what: &'static str,
+    unit: &'static str,
+    rates: [Option<f64>; 3],
+}
+
+fn row(what: &'static str, unit: &'static str, runners: &[Runner]) -> Row {
+    let of = |name| runners.iter().find(|r| r.name == name).map(|r| r.best);
+    Row { what, unit, rates: [of("lane"), of("twin"), of("WiredTiger")] }
+}
+
+fn print(rows: &[Row]) {
+    let cell = |rate: Option<f64>| rate.map_or("-".into(), thousands);
+    let ratio = |a: Option<f64>, b: Option<f64>| match (a, b) {
+        (Some(a), Some(b)) => format!("{:.2}", a / b),
+        _ => "-".into(),
+    };
+    println!(
+        "{:<50} {:<15} {:>12} {:>12} {:>12} {:>10} {:>16}",
+        "", "a second", "lane", "twin", "WiredTiger", "lane/twin", "lane/WiredTiger"
+    );
+    for Row { what, unit, rates: [lane, twin, wired] } in rows {
+        println!(
+            "{what:<50} {unit:<15} {:>12} {:>12} {:>12} {:>10} {:>16}",
+            cell(*lane),
+            cell(*twin),
+            cell(*wired),
+            ratio(*lane, *twin),
+            ratio(*lane, *wired)
+        );
+    }
+}
+
+fn goal(what: &str, met: Option<bool>, measured: String) {
+    let verdict = match met {
+        Some(true) => "met",
+        Some(false) => "not met",
+        None => "not measured",
+    };
+    println!("  {what}: {verdict}{measured}");
+}
+
+fn main() {
+    let mut w1 = written(|| Box::new(One(Rng::new())));
+    race("W1", &mut w1);
+    let mut w2 = written(|| Box::new(Sixteen::new()));
+    race("W2", &mut w2);
+
+    let (mut a, mut b) = (proved(), twin());
+    work::open_sixteen_views(&mut a);
+    work::open_sixteen_views(&mut b);
+    let words = a.0.cell_words().to_vec();
+    assert!(words == b.0.cells, "lane and twin fill the cells differently");
+    assert!(words.chunks(4).all(|cell| cell[0] != 0), "every cell is filled");
+    let again = words.clone();
+    let mut w3 = [runner("lane", a, Reads(Rng::new())), runner("twin", b, Reads(Rng::new()))];
+    race("W3", &mut w3);
+    let passes = |words: Vec<u32>, pass: fn(&[u32]) -> u32| {
+        move |n| (0..n).fold(0, |sum: u64, _| sum.wrapping_add(u64::from(pass(black_box(&words)))))
+    };
+    let mut plain =
+        [Runner::new("pass", passes(words, pass)), Runner::new("search", passes(again, pass_that_could_stop))];
+    for _ in 0..PASSES {
+        plain.iter_mut().for_each(Runner::measure);
+    }
+
+    eprintln!("measuring the desk program ..");
+    let input = stream((w1[0].best as u64).clamp(1_000, 200_000));
+    let short = stream((w1[1].best as u64).clamp(1_000, 200_000));
+    let (twin_rate, _) = rate(&short, None, twin::desk);
+    let expected = twin::desk(&short);
+    let (_, output) = rate(&short, Some(&expected), |input| desk(input).unwrap_or_else(|e| panic!("{e}")));
+    assert_eq!(output.len(), short.len() / 10 * 8);
+    let (desk_rate, output) = rate(&input, None, |input| desk(input).unwrap_or_else(|e| panic!("{e}")));
+    let (serve_rate, _) = rate(&input, Some(&output), |input| {
+        let mut answers = vec![0; input.len() / 10 * 8];
+        lane::Board::new(1_024).expect("1,024 cells").serve(input, &mut answers);
+        answers
+    });
+
+    let rows = [
+        row("W1: one place; start, read, update, commit", "transactions", &w1),
+        row("W2: sixteen places in turn on shared keys", "transactions", &w2),
+        row("W3: reads alone, sixteen open views, 1,024 cells", "reads", &w3),
+        Row {
+            what: "   plain pass over the same 4,096 words: a sum",
+            unit: "passes",
+            rates: [Some(plain[0].best), None, None],
+        },
+        Row {
+            what: "   plain pass: a search for a word not there",
+            unit: "passes",
+            rates: [Some(plain[1].best), None, None],
+        },
+        Row {
+            what: "W1's stream through the desk program",
+            unit: "calls",
+            rates: [Some(desk_rate), Some(twin_rate), None],
+        },
+        Row {
+            what: "W1's stream through lane_serve at once",
+            unit: "calls",
+            rates: [Some(serve_rate), Some(twin_rate), None],
+        },
+    ];
+    println!();
+    print(&rows);
+    println!("\nGoals");
+    for row in &rows[..2] {
+        let ratio = row.rates[2].and_then(|wired| row.rates[0].map(|lane| lane / wired));
+        let measured = ratio.map_or(String::new(), |r| format!(", {r:.2} times as fast"));
+        goal(&format!("{} at least as fast as WiredTiger", &row.what[..2]), ratio.map(|r| r >= 1.0), measured);
+    }
+    let [read, pass, search] = [w3[0].best, plain[0].best, plain[1].best];
+    let measured = format!(", {:.2} sums long ({:.2} searches)", pass / read, search / read);
+    goal("W3 a read at most twice the plain pass", Some(pass / read <= 2.0), measured);
+    if rows[0].rates[2].is_none() {
+        println!(
+            "\nWiredTiger is not here. To measure against it: apt-get install libwiredtiger-dev, then ./lane bench"
+        );
+    }
+}

@@ -1,0 +1,334 @@
+//! Streams of call records: through the desk program, byte for byte, and through `lane_serve` in pieces.
+
+use crate::rng::Rng;
+use crate::store::desk_program;
+use crate::{codecs, shrink, Counts, Difference, Progress, Store};
+use std::io::{Read, Write};
+use std::sync::mpsc;
+use std::time::{Duration, Instant};
+use twin::board::Call;
+use twin::records::{call_record, read_answer};
+
+/// One call record.
+pub type Bytes = [u8; 10];
+
+/// What a stream is made of.
+#[derive(Clone, Copy)]
+pub struct Kind {
+    pub name: &'static str,
+    /// Places 0 to `places` less one are used.
+    places: u32,
+    /// The last `staying` places of them start, read, and close one time in two hundred.
+    staying: u32,
+    /// Keys 0 to `keys` less one are used.
+    keys: u32,
+    /// Weights at a place that is not idle: read, update, prepare, commit, rollback.
+    weights: [u32; 5],
+    /// So many of a hundred calls of a spoiled writer are a rollback.
+    gives_up: u32,
+    /// So many of a hundred calls are any call at all, with any place and key.
+    wild: u32,
+}
+
+#[rustfmt::skip]
+pub const KINDS: [Kind; 6] = [
+    Kind { name: "few keys, many places", places: 16, staying: 0, keys: 4, weights: [30, 40, 3, 15, 12], gives_up: 80, wild: 1 },
+    Kind { name: "long-lived views", places: 10, staying: 6, keys: 6, weights: [15, 45, 2, 35, 3], gives_up: 90, wild: 1 },
+    Kind { name: "prepared readers", places: 8, staying: 0, keys: 5, weights: [45, 25, 12, 10, 8], gives_up: 80, wild: 1 },
+    Kind { name: "spoiled writers", places: 16, staying: 1, keys: 8, weights: [20, 60, 5, 10, 5], gives_up: 10, wild: 1 },
+    Kind { name: "all keys", places: 4, staying: 1, keys: 256, weights: [25, 50, 1, 22, 2], gives_up: 90, wild: 0 },
+    Kind { name: "anything", places: 16, staying: 0, keys: 8, weights: [20, 40, 10, 20, 10], gives_up: 50, wild: 40 },
+];
+
+fn bytes(call: Call) -> Bytes {
+    call_record(call).expect("places up to 255 and keys up to 65,535 have records")
+}
+
+/// A call at this place: 0 start, 1 read, 2 update, 3 prepare, 4 commit, 5 rollback.
+fn call(which: usize, place: u32, key: u32, value: u32) -> Call {
+    match which {
+        0 => Call::Start { place },
+        1 => Call::Read { place, key },
+        2 => Call::Update { place, key, value },
+        3 => Call::Prepare { place },
+        4 => Call::Commit { place },
+        _ => Call::Rollback { place },
+    }
+}
+
+/// What a generator of streams keeps in mind, so that its calls are to the point: which places are idle, spoiled or
+/// prepared, and who holds a key. It decides no answer; where it is wrong, a call is only less to the point.
+struct Foresight {
+    /// 0 idle, 1 open, 2 spoiled, 3 prepared.
+    state: [u32; 16],
+    view: [u64; 16],
+    holder: [Option<u32>; 256],
+    changed: [u64; 256],
+    now: u64,
+}
+
+impl Foresight {
+    fn take(&mut self, which: usize, place: u32, key: u32) {
+        let at = place as usize;
+        self.now += 1;
+        match which {
+            0 => (self.state[at], self.view[at]) = (1, self.now),
+            2 if self.state[at] == 1 && self.holder[key as usize] != Some(place) => {
+                if self.holder[key as usize].is_some() || self.changed[key as usize] > self.view[at] {
+                    self.state[at] = 2;
+                } else {
+                    self.holder[key as usize] = Some(place);
+                }
+            }
+            3 if self.state[at] == 1 => self.state[at] = 3,
+            4 | 5 if which == 5 || self.state[at] != 2 => {
+                for (holder, changed) in self.holder.iter_mut().zip(&mut self.changed) {
+                    if *holder == Some(place) {
+                        *holder = None;
+                        *changed = if which == 4 { self.now } else { *changed };
+                    }
+                }
+                self.state[at] = 0;
+            }
+            _ => (),
+        }
+    }
+}
+
+/// So many calls of a kind.
+pub fn stream(rng: &mut Rng, kind: &Kind, calls: usize) -> Vec<Bytes> {
+    let mut mind = Foresight { state: [0; 16], view: [0; 16], holder: [None; 256], changed: [0; 256], now: 0 };
+    let mut made = Vec::with_capacity(calls);
+    while made.len() < calls {
+        let value = if rng.percent(80) { rng.below(1_000) } else { rng.word() };
+        let mut place = rng.below(kind.places);
+        let mut key = rng.below(kind.keys);
+        let which = if rng.percent(kind.wild) {
+            if rng.percent(30) {
+                place = rng.pick(&[16, 17, 128, 255]);
+            }
+            if rng.percent(30) {
+                key = rng.pick(&[255, 256, 257, 300, 65_535]);
+            }
+            rng.below(6) as usize
+        } else {
+            let stays = place >= kind.places - kind.staying;
+            match mind.state[place as usize] {
+                0 => 0,
+                2 if rng.percent(kind.gives_up) => 5,
+                3 if rng.percent(30) => rng.pick(&[4, 4, 5]),
+                3 if rng.percent(70) => continue,
+                1 if stays && rng.below(200) > 0 => 1,
+                1 if stays => rng.pick(&[4, 5]),
+                _ => 1 + rng.weighted(&kind.weights),
+            }
+        };
+        if place < 16 && key < 256 {
+            mind.take(which, place, key);
+        }
+        made.push(bytes(call(which, place, key, value)));
+    }
+    made
+}
+
+/// Fills the 1,024 cells of the desk's board with four versions of each key, each but the newest kept by a view that
+/// stays open, meets FULL, then closes the views one by one and writes again. Updates of this kind are dear.
+pub fn filled(rng: &mut Rng) -> Vec<Bytes> {
+    const WRITER: u32 = 15;
+    let mut calls = Vec::new();
+    for reader in 0..4 {
+        calls.push(Call::Start { place: WRITER });
+        // by key up or down, so that cells of one key are not always in the same order
+        let down = rng.percent(50);
+        calls.extend((0..256).map(|k| if down { 255 - k } else { k }).map(|key| Call::Update {
+            place: WRITER,
+            key,
+            value: rng.word(),
+        }));
+        calls.push(Call::Commit { place: WRITER });
+        calls.push(Call::Start { place: reader });
+    }
+    for close in [None, Some(1), Some(0), Some(2), Some(3)] {
+        if let Some(place) = close {
+            calls.push(if rng.percent(50) { Call::Commit { place } } else { Call::Rollback { place } });
+        }
+        calls.push(Call::Start { place: WRITER });
+        for _ in 0..if close.is_none() { 12 } else { 4 } {
+            let (place, key, value) = (WRITER, rng.below(256), rng.word());
+            calls.push(Call::Update { place, key, value });
+            calls.extend((0..5).map(|place| Call::Read { place, key }));
+        }
+        calls.push(if rng.percent(50) { Call::Commit { place: WRITER } } else { Call::Rollback { place: WRITER } });
+    }
+    calls.into_iter().map(bytes).collect()
+}
+
+/// A stream on which two stores differ, made small.
+fn difference(a: &dyn Store, b: &dyn Store, mut calls: Vec<Bytes>, what: &str) -> Difference {
+    let differ = |calls: &[Bytes]| a.desk(&calls.concat()) != b.desk(&calls.concat());
+    // nothing after the first answer that differs is needed
+    let (x, y) = (a.desk(&calls.concat()), b.desk(&calls.concat()));
+    let first = x.iter().zip(&y).position(|(p, q)| p != q).unwrap_or(x.len().min(y.len())) / 8;
+    let mut prefix = calls.clone();
+    prefix.truncate(first + 1);
+    if differ(&prefix) {
+        calls = prefix;
+    }
+    // each try runs a program, and some streams are dear: what is found in half a minute has to do
+    let begun = Instant::now();
+    shrink::drop_parts(&mut calls, 1, &mut |calls| begun.elapsed() < Duration::from_secs(30) && differ(calls));
+    bytes_difference(a, b, &calls.concat(), what)
+}
+
+fn bytes_difference(a: &dyn Store, b: &dyn Store, input: &[u8], what: &str) -> Difference {
+    let list = |bytes: &[u8]| {
+        bytes.chunks(10).map(|c| format!("        {c:?},\n")).collect::<String>().replace(['[', ']'], "")
+    };
+    Difference(format!(
+        "{} and {} differ on a stream ({what}):\n// {}: {:?}\n// {}: {:?}\n#[test]\nfn found() {{\n    \
+         compare::same_desk(&[\n{}    ]);\n}}\n",
+        a.name(),
+        b.name(),
+        a.name(),
+        a.desk(input),
+        b.name(),
+        b.desk(input),
+        list(input)
+    ))
+}
+
+/// Plays a stream on both desks; counts the answers by name.
+pub fn one(a: &dyn Store, b: &dyn Store, calls: &[Bytes], what: &str, counts: &mut Counts) -> Result<(), Difference> {
+    let input = calls.concat();
+    let output = a.desk(&input);
+    if output != b.desk(&input) {
+        return Err(difference(a, b, calls.to_vec(), what));
+    }
+    for at in (0..output.len()).step_by(8) {
+        counts.add(read_answer(&output, at).map_or("?", |reply| twin::name(reply.answer.number)));
+    }
+    Ok(())
+}
+
+/// Streams of every kind in turn, so many calls in all. Gives how often each answer was written.
+pub fn compare(a: &dyn Store, b: &dyn Store, seed: u64, calls: u64, each: usize) -> Result<Counts, Difference> {
+    let mut rng = Rng::new(seed);
+    let mut counts = Counts::default();
+    let mut progress = Progress::new("streams", calls);
+    let mut done = 0;
+    for kind in KINDS.iter().cycle() {
+        progress.at(done);
+        if done >= calls {
+            break;
+        }
+        let stream = stream(&mut rng, kind, each);
+        done += stream.len() as u64;
+        one(a, b, &stream, kind.name, &mut counts)?;
+    }
+    progress.end(done);
+    Ok(counts)
+}
+
+/// A few short streams cut after every byte, and with every byte damaged, left out or put in. Gives how many they were.
+pub fn damaged(a: &dyn Store, b: &dyn Store, seed: u64, streams: u64) -> Result<u64, Difference> {
+    let mut rng = Rng::new(seed);
+    let mut cases = 0;
+    let mut progress = Progress::new("damaged streams", 0);
+    for n in 0..streams {
+        let whole = stream(&mut rng, &KINDS[n as usize % KINDS.len()], 8).concat();
+        let mut inputs: Vec<Vec<u8>> = (0..=whole.len()).map(|at| whole[..at].to_vec()).collect();
+        for at in 0..whole.len() {
+            let old = whole[at];
+            for byte in [0, 1, 6, 7, 0xFF, old ^ 1, old ^ 0x80, rng.below(256) as u8] {
+                let mut input = whole.clone();
+                input[at] = byte;
+                inputs.push(input);
+            }
+            let mut less = whole.clone();
+            less.remove(at);
+            let mut more = whole.clone();
+            more.insert(at, rng.pick(&[0, 0x43, 0x4C, old]));
+            inputs.extend([less, more]);
+        }
+        for input in inputs {
+            cases += 1;
+            progress.at(cases);
+            if a.desk(&input) != b.desk(&input) {
+                return Err(bytes_difference(a, b, &input, "damaged"));
+            }
+        }
+    }
+    progress.end(cases);
+    Ok(cases)
+}
+
+/// A console that waits: each call is sent in two parts, and its answer read before the next is sent.
+pub fn waiting(b: &dyn Store, seed: u64, calls: usize) {
+    let mut rng = Rng::new(seed);
+    let stream = stream(&mut rng, &KINDS[0], calls);
+    let mut desk = desk_program();
+    let mut to = desk.stdin.take().expect("piped");
+    let mut from = desk.stdout.take().expect("piped");
+    let (send, answers) = mpsc::channel();
+    let reader = std::thread::spawn(move || {
+        let mut answer = [0; 8];
+        while from.read_exact(&mut answer).is_ok() {
+            send.send(answer).expect("the console waits");
+        }
+    });
+    let mut output = Vec::new();
+    for call in &stream {
+        let cut = rng.below(10) as usize;
+        to.write_all(&call[..cut]).expect("the desk reads");
+        to.flush().expect("the desk reads");
+        std::thread::sleep(Duration::from_micros(50));
+        to.write_all(&call[cut..]).expect("the desk reads");
+        // no measure of speed: without it a desk that waits for more input would hold up the tests for ever
+        let answer = answers.recv_timeout(Duration::from_secs(300)).expect("an answer before the next call is sent");
+        output.extend(answer);
+    }
+    drop(to);
+    reader.join().expect("the reader ends");
+    assert!(desk.wait().expect("the desk ends").success());
+    assert!(output == b.desk(&stream.concat()), "a console that waits gets other answers");
+}
+
+/// Streams on small boards through `lane_serve`, in pieces of any length with any room for answers: what each piece
+/// gives back, its answers, the record and the words are the same. Gives how often each answer was written.
+pub fn pieces(a: &dyn Store, b: &dyn Store, seed: u64, calls: u64) -> Result<Counts, Difference> {
+    let mut rng = Rng::new(seed);
+    let mut counts = Counts::default();
+    let mut progress = Progress::new("streams in pieces", calls);
+    let mut done = 0;
+    while done < calls {
+        progress.at(done);
+        let kind = rng.pick(&KINDS);
+        let cells = rng.pick(&[1, 2, 3, 5, 8, 16, 40]);
+        let mut input = stream(&mut rng, &kind, 400).concat();
+        if rng.percent(30) {
+            let at = rng.below(input.len() as u32) as usize;
+            input[at] = rng.word() as u8;
+        }
+        done += 400;
+        let (mut record, mut words) = (vec![0; 50], vec![0; 4 * cells]);
+        let (mut at, mut given) = (0, 0);
+        loop {
+            // a little more is given each time; what was not taken is given again
+            given = input.len().min(given + rng.below(120) as usize);
+            let room = rng.below(100) as usize;
+            let case = codecs::Case { record, cells: words, calls: input[at..given].to_vec(), room };
+            case.compare(a, b)?;
+            let ((taken, written, why), answers, left, cells_left) = case.play(a);
+            for answer in (0..written as usize).step_by(8) {
+                counts.add(read_answer(&answers, answer).map_or("?", |reply| twin::name(reply.answer.number)));
+            }
+            (record, words) = (left, cells_left);
+            at += taken as usize;
+            if why == 1 || (given == input.len() && input.len() - at < 10) {
+                break;
+            }
+        }
+    }
+    progress.end(done);
+    Ok(counts)
+}

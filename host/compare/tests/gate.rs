@@ -1,0 +1,155 @@
+//! The comparisons of the gate, on two cores in about two minutes. `LANE_ROUNDS=n` multiplies the numbers of cases.
+
+use compare::store::SHORTCUTS;
+use compare::{boards, codecs, exhaustive, rounds, say, situations, streams, Counts, Proved, Store as _, Twin};
+
+/// The gate's numbers of cases for one round.
+const BOARDS: u64 = 300_000;
+const STREAM_CALLS: u64 = 500_000;
+const PIECE_CALLS: u64 = 200_000;
+const SEQUENCES: u64 = 500_000;
+
+/// Prints the counts and demands that each of these names was met so often.
+fn met(what: &str, counts: &Counts, names: &[&str], often: u64) {
+    let line: Vec<String> = counts.0.iter().map(|(name, count)| format!("{name} {count}")).collect();
+    say(&format!("{what}: {}", line.join(", ")));
+    for name in names {
+        assert!(counts.of(name) >= often, "{what}: {name} was met {} times only", counts.of(name));
+    }
+}
+
+const NUMBERS: [&str; 13] = [
+    "OK", "BOARD", "PLACE", "BUSY", "IDLE", "WORN", "SPOILED", "HELD", "KEY", "CONFLICT", "PREPARED", "FULL", "RECORD",
+];
+
+fn boards(seed: u64) {
+    say(&format!("boards: seed {seed:#x}"));
+    let half = BOARDS / 2 * rounds();
+    let (branches, numbers) = boards::compare(&Proved, &Twin, seed, half).unwrap();
+    met("boards, answers", &numbers, &NUMBERS, half / 200);
+    met("boards, branches", &branches, &boards::BRANCHES, half / 3_000);
+}
+
+#[test]
+fn boards_of_any_words() {
+    boards(0x1A2E_0001);
+}
+
+#[test]
+fn boards_of_any_words_again() {
+    boards(0x1A2E_0002);
+}
+
+#[test]
+fn streams_through_the_desk() {
+    let seed = 0x1A2E_0003;
+    say(&format!("streams: seed {seed:#x}"));
+    let counts = streams::compare(&Proved, &Twin, seed, STREAM_CALLS * rounds(), 2_500).unwrap();
+    let often = ["OK", "PLACE", "BUSY", "IDLE", "SPOILED", "HELD", "KEY", "CONFLICT", "PREPARED"];
+    met("streams, answers", &counts, &often, 500);
+}
+
+#[test]
+fn a_board_filled_to_full_through_the_desk() {
+    let seed = 0x1A2E_0004;
+    say(&format!("filled boards: seed {seed:#x}"));
+    let mut rng = compare::rng::Rng::new(seed);
+    let mut counts = Counts::default();
+    for _ in 0..2 * rounds() {
+        streams::one(&Proved, &Twin, &streams::filled(&mut rng), "filled", &mut counts).unwrap();
+    }
+    met("filled boards, answers", &counts, &["FULL", "OK"], 16 * rounds());
+}
+
+#[test]
+fn streams_damaged_and_cut_everywhere() {
+    let seed = 0x1A2E_0005;
+    say(&format!("damaged streams: seed {seed:#x}"));
+    streams::damaged(&Proved, &Twin, seed, 6 * rounds()).unwrap();
+}
+
+#[test]
+fn a_console_that_waits_for_each_answer() {
+    streams::waiting(&Twin, 0x1A2E_0006, 300);
+}
+
+#[test]
+fn streams_in_pieces_on_small_boards() {
+    let seed = 0x1A2E_0007;
+    say(&format!("streams in pieces: seed {seed:#x}"));
+    let counts = streams::pieces(&Proved, &Twin, seed, PIECE_CALLS * rounds()).unwrap();
+    met(
+        "streams in pieces, answers",
+        &counts,
+        &["OK", "CONFLICT", "PREPARED", "FULL", "HELD", "SPOILED", "RECORD"],
+        50,
+    );
+}
+
+#[test]
+fn all_sequences_of_calls() {
+    let mut all = 0;
+    for cells in 1..=3 {
+        let (depth, sequences) = exhaustive::compare(&Proved, &Twin, cells, SEQUENCES * rounds() / 3).unwrap();
+        say(&format!("sequences: {sequences} up to {depth} calls on {cells} cells"));
+        all += sequences;
+    }
+    assert!(all >= SEQUENCES);
+}
+
+#[test]
+fn records_in_all_damaged_forms() {
+    codecs::compare(&Proved, &Twin).unwrap();
+}
+
+#[test]
+fn the_eleven_situations() {
+    let twin = situations::compare(&Twin).unwrap();
+    let proved = situations::compare(&Proved).unwrap();
+    assert_eq!(twin, proved);
+}
+
+/// Each of document 01's four shortcuts, planted in a copy of the twin, is caught by each of the comparisons.
+#[test]
+fn the_four_shortcuts_are_caught() {
+    assert_eq!(SHORTCUTS.len(), 4);
+    for shortcut in &SHORTCUTS {
+        let mut rng = compare::rng::Rng::new(0x1A2E_0008);
+        let found = [
+            ("boards", boards::compare(&Proved, shortcut, rng.draw(), BOARDS).err()),
+            ("streams", streams::compare(&Proved, shortcut, rng.draw(), STREAM_CALLS, 500).err()),
+            ("streams in pieces", streams::pieces(&Proved, shortcut, rng.draw(), PIECE_CALLS).err()),
+            ("sequences", exhaustive::compare(&Proved, shortcut, 2, SEQUENCES).err()),
+        ];
+        for (comparison, difference) in found {
+            let difference = difference.unwrap_or_else(|| panic!("{comparison} did not catch {}", shortcut.name()));
+            say(&format!("{comparison} caught {}: {difference:?}", shortcut.name()));
+        }
+    }
+}
+
+/// Each misreading of some sentence of document 01, planted in a copy of the twin, is caught by one of the comparisons:
+/// the generators reach what the sentence decides.
+#[cfg(feature = "misreadings")]
+#[test]
+fn misreadings_are_caught() {
+    let mut caught = Counts::default();
+    let filled = streams::filled(&mut compare::rng::Rng::new(0x1A2E_0004)).concat();
+    let answers = Proved.desk(&filled);
+    for misreading in &compare::store::MISREADINGS {
+        let by = if boards::compare(&Proved, misreading, 0x1A2E_0009, BOARDS / 2).is_err() {
+            "boards"
+        } else if codecs::compare(&Proved, misreading).is_err() {
+            "records"
+        } else if streams::damaged(&Proved, misreading, 0x1A2E_000A, 1).is_err() {
+            "damaged streams"
+        } else if misreading.desk(&filled) != answers {
+            "filled boards"
+        } else {
+            panic!("no comparison caught {}", misreading.name());
+        };
+        say(&format!("{by} caught {}", misreading.name()));
+        caught.add(by);
+    }
+    met("misreadings caught", &caught, &["boards", "records", "damaged streams"], 1);
+}
