@@ -308,11 +308,11 @@ pub fn stamp(cells: &mut [u32], number: u32, commit: u32)
     ensures { λ r. ⌜ now (cells .exit) ≡ withCells (now (cells .entry)) (map (stamped number commit) (cellsOf (now (cells .entry)))) ⌝ }
 {
     let n = count(cells);
-    let mut i = next(cells, 0, true, 0);
-    while i < n {
-        let c = cell_at(cells, i).stamped(number, commit);
-        put_cell(cells, i, c);
-        i = next(cells, i + 1, true, 0);
+    let mut at = next(cells, 0, true, 0);
+    while at < n {
+        let c = cell_at(cells, at).stamped(number, commit);
+        put_cell(cells, at, c);
+        at = next(cells, at + 1, true, 0);
     }
 }
 

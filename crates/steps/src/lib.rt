@@ -120,14 +120,14 @@ impl Board {
         }
         let at = place as usize;
         let p = self.places[at];
-        let look = cells::look(cells, key, p.number, p.view);
-        let mine = look.own;
+        let asked = cells::look(cells, key, p.number, p.view);
+        let mine = asked.own;
         if let Found::At(i) = mine {
             let c = cells::cell_at(cells, i);
             cells::put_cell(cells, i, c.valued(value));
             return self.with(Answer::Ok(0));
         }
-        if look.conflict {
+        if asked.conflict {
             self.places[at] = p.in_state(State::Spoiled);
             return self.with(Answer::Conflict);
         }

@@ -20,11 +20,11 @@ stays : (number commit : ℕ) (c : Cell) → partIs true 0 c ≡ false → stamp
 stays number commit c e = stamped-other number c commit (committed-not-own number c e)
 
 abbrev Inv-loop : tie.InvT-loop
-Inv-loop cells₀ number commit n i₀ cells i =
-    (length cells ≡ length cells₀) × (cells ≡ withCells cells₀ (mapTo i (stamped number commit) (cellsOf cells₀)))
+Inv-loop cells₀ number commit n at₀ cells at =
+    (length cells ≡ length cells₀) × (cells ≡ withCells cells₀ (mapTo at (stamped number commit) (cellsOf cells₀)))
 
 abbrev μ-loop : tie.MeasureT-loop
-μ-loop cells₀ number commit n i₀ cells i = n - i
+μ-loop cells₀ number commit n at₀ cells at = n - at
 
 count-requires : tie.Need-count-requires Inv-loop μ-loop
 count-requires c κs = search needs
@@ -62,7 +62,7 @@ loop-again c =
     let s = l .before .before .before .before .before .before .args in
     let f = stamped (s .number) (s .commit) in
     let ws = s .cells .now in
-    let i = l .loop .i in (
+    let i = l .loop .at in (
       search needs,
       to-over f (stays (s .number) (s .commit)) ws _ (i + 1) _ (cc (to-at f ws i, to-next ws i (search needs) f)) (c .next2 .ensures),
     )
@@ -71,7 +71,7 @@ same-length : tie.Need-same-length Inv-loop μ-loop
 same-length c = search needs
 
 returns : tie.Need-returns Inv-loop μ-loop
-returns c = c .before .loop .inv .1 ∙ to-end _ (c .before .loop .i) (search needs) _
+returns c = c .before .loop .inv .1 ∙ to-end _ (c .before .loop .at) (search needs) _
 
 pub stamp-spec : {M : Type 1} → statement M
 stamp-spec =
