@@ -2,9 +2,11 @@
 --     lowest-means, has-means, newest-means     what is computed meets the facts
 --     lowest-only, has-only, newest-only        nothing else does
 --     lowest-found, lowest-none                 the facts of a search by what it found
---     has-found, has-none                       the facts of "has a cell" by its answer; some-has, none-has the other way
---     seen-means, seen-only                     the same of the key's committed cell with the greatest number at most the view
---     own-inside                                the lowest own cell is one of the cells
+--     has-found, has-none                       the facts of "has a cell" by its answer
+--     some-has, none-has                        the answer by the facts
+--     seen-means, seen-only                     the newest committed cell of the key that a view sees
+--     own-found, own-none, own-inside           the lowest own cell of a key, and that it is one of the cells
+--     unique                                    one result meets a contract
 -- Assumes nothing.
 use mathlib.Core.Path.{_≡_, refl, sym, ap, _∙_}
 use mathlib.Core.Bool.{Bool, true, false, not, _&&_, _||_, true≢false}
@@ -22,6 +24,10 @@ use Rattle.cells.specs.declared.Found.the-variants.{At, Nothing}
 use Rattle.cells.specs.Cells.{noCell, cellsOf, countOf, empty, ofKey, committed, seenBy}
 use Rattle.cells.specs.Rules.{pickFound, pickCell, lowestFrom, hasCell, newest, mine, ownAt, visible, newestSeen}
 use Rattle.cells.proofs.Words.{length-cells}
+
+-- each contract says that the result, or the words lent, equal what a definition computes: two that meet it are equal
+pub unique : {A : Type 0} (x a b : A) → a ≡ x → b ≡ x → a ≡ b
+unique x a b p q = p ∙ sym q
 
 -- no test both passes and fails
 clash : {t : Bool} → t ≡ true → t ≡ false → ⊥
@@ -88,7 +94,11 @@ module _ (p : Cell → Bool) where
       → From n i (c ∷ cs)
   from-turn c cs n i true e q f =
       let s : n ≡ i = cc in
-      record { at = 0; place = omega arith; lowest = record { inside = omega arith; passes = e; first = λ k h. absurd (omega arith) } }
+      record {
+        at = 0;
+        place = omega arith;
+        lowest = record { inside = omega arith; passes = e; first = λ k h. absurd (omega arith) };
+      }
   from-turn c cs n i false e q f =
       let m = f q in
       record {
@@ -178,7 +188,8 @@ module _ (p : Cell → Bool) where
   pub none-has : (cs : List Cell) → None cs → hasCell p cs ≡ false
   none-has cs f = sym (has-only cs false f)
 
-  -- the newest, of b and the cells: r is b, and no cell that passes has a number above b's; or r is the newest of the cells, above b
+  -- the newest of b and the cells: r is b, and no cell that passes has a number above b's;
+  -- or r is the newest of the cells, and above b
   record Stays (b : Cell) (cs : List Cell) (r : Cell) : Type 0 where
     same : r ≡ b
     low : (k : ℕ) → k < length cs → p (getD cs k noCell) ≡ true → getD cs k noCell .commit ≤ b .commit
@@ -191,7 +202,8 @@ module _ (p : Cell → Bool) where
   Over b cs r = Stays b cs r ⊎ Goes b cs r
 
   -- the first cell passes with a greater number, and is the best from there
-  take-one : (b c : Cell) (cs : List Cell) (r : Cell) → p c ≡ true → b .commit < c .commit → Over c cs r → Over b (c ∷ cs) r
+  take-one : (b c : Cell) (cs : List Cell) (r : Cell) → p c ≡ true → b .commit < c .commit → Over c cs r
+      → Over b (c ∷ cs) r
   take-one b c cs r e l (inl m) =
       let low : (k : ℕ) → k < length (c ∷ cs) → p (getD (c ∷ cs) k noCell) ≡ true → getD (c ∷ cs) k noCell .commit ≤ c .commit =
       elim [ zero ↦ λ h q. le-refl (c .commit) | suc k ↦ λ h q. m .low k (le-of-suc-le-suc h) q ] in
@@ -215,7 +227,8 @@ module _ (p : Cell → Bool) where
       })
 
   -- the first cell does not pass, or has no greater number
-  pass-one : (b c : Cell) (cs : List Cell) (r : Cell) → (p c ≡ true → c .commit ≤ b .commit) → Over b cs r → Over b (c ∷ cs) r
+  pass-one : (b c : Cell) (cs : List Cell) (r : Cell) → (p c ≡ true → c .commit ≤ b .commit) → Over b cs r
+      → Over b (c ∷ cs) r
   pass-one b c cs r low (inl m) =
       inl (record { same = m .same; low = elim [ zero ↦ λ h q. low q | suc k ↦ λ h q. m .low k (le-of-suc-le-suc h) q ] })
   pass-one b c cs r low (inr m) =
@@ -277,7 +290,8 @@ module _ (p : Cell → Bool) where
       let e : a .at ≡ b .at = same-number (a .at) (b .at) (not-below cs r s a b) (not-below cs s r b a) in
       a .this ∙ ap (λ (k : ℕ). getD cs k noCell) e ∙ sym (b .this)
 
-  pub newest-only : ((c : Cell) → p c ≡ true → 0 < c .commit) → (cs : List Cell) (r : Cell) → NewestIs cs r → r ≡ newest p noCell cs
+  pub newest-only : ((c : Cell) → p c ≡ true → 0 < c .commit) → (cs : List Cell) (r : Cell) → NewestIs cs r
+      → r ≡ newest p noCell cs
   newest-only numbered cs r a = newest-same cs r (newest p noCell cs) a (newest-means numbered cs)
 
 -- the two scans by name

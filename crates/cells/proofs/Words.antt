@@ -1,5 +1,5 @@
--- Words and cells: where a cell's words stand, how many cells there are, and that words and cells are each other's inverse.
---     with-cells, cells-with     the same cells put in the words give the words; the cells put in words are the cells of these
+-- Words and cells: where a cell's words stand, how many there are, and that words and cells are each other's inverse.
+--     with-cells, cells-with     the words with their own cells are the words; the cells put in words are read back
 --     with-with, past-with       putting cells in twice is putting in the last; the words past the last whole cell stay
 --     past-whole, whole-words    in whole cells no word stands past the last
 --     length-..                  how many words and cells there are

@@ -1,3 +1,5 @@
+-- Laws by subject, then the theorems: Demand (demand3), Judge (all-right, full-right, decided), Axioms (snapshot-isolation),
+-- Examples, and Bytes (desk-tells, serve-tells).
 pub mod Basics
 pub mod Facts
 pub mod Leave
@@ -13,3 +15,5 @@ pub mod Full
 pub mod Judge
 pub mod Axioms
 pub mod Examples
+pub mod Small
+pub mod Bytes

@@ -2,22 +2,21 @@
 -- Assumes nothing.
 use mathlib.Core.Path.{_≡_, refl, sym, ap, _∙_}
 use mathlib.Core.Logic.{_⊎_}
-use mathlib.Core.Bool.{Bool, true, false, not, _&&_}
+use mathlib.Core.Bool.{Bool, true, false, not}
 use mathlib.Core.List.{List, [], _∷_}
 use mathlib.Core.Option.{Option, none, some}
 use Prim.Native.Nat.{ℕ, zero, suc, _+_, _≤_, _<_}
 use native.Mathlib.Nat.{le-of-suc-le-suc, not-suc-le-zero}
 use native.Mathlib.Omega.{arith}
-use lib.Dec.{leb, eqb}
+use lib.Dec.{eqb}
 use lib.ListN.{length, getD}
 use borrow.Author.Tests.{not-true, eq-eqb, ne-eqb}
 use Rattle.cells.specs.declared.Cell.{Cell}
-use Rattle.cells.specs.Cells.{wholeCells}
 use Rattle.steps.specs.declared.State.{State}
 use Rattle.steps.specs.declared.Place.{Place}
 use Rattle.steps.specs.declared.Board.{Board}
-use Rattle.steps.specs.Record.{allPlaces, mostCells, mostStarts, isIdle, idlePlace, placeAt}
-use Rattle.steps.specs.Shape.{held, hasNumber, distinct, each, counted, inShape}
+use Rattle.steps.specs.Record.{allPlaces, isIdle, idlePlace, placeAt}
+use Rattle.steps.specs.Shape.{held, hasNumber, distinct, counted}
 use Rattle.history.specs.History.{Event, write, lastWrite, Run, Ledger, put}
 use Rattle.steps.proofs.Tests.{by-test, and-left, and-right}
 use Rattle.history.proofs.Basics.{clash, or-left, or-right, none-some}
@@ -117,14 +116,6 @@ distinct-at (x ∷ xs) zero (suc q) d hp hq bp bq e = clash (has-held xs q (x .n
 distinct-at (x ∷ xs) (suc p) zero d hp hq bp bq e = clash (has-held xs p (x .number) (le-of-suc-le-suc hp) bp e) (first x xs bq d)
 distinct-at (x ∷ xs) (suc p) (suc q) d hp hq bp bq e =
     ap suc (distinct-at xs p q (rest x xs d) (le-of-suc-le-suc hp) (le-of-suc-le-suc hq) bp bq e)
-
-pub shape-numbers : (b : Board) (words : ℕ) → inShape b words ≡ true → distinct (held (b .places)) ≡ true
-unfolding inShape
-shape-numbers b words e =
-    let room = leb (b .commits + length (held (b .places))) (b .starts) in
-    let front = wholeCells mostCells words && leb (b .starts) mostStarts && room in
-    and-right front (distinct (held (b .places)))
-    (and-left (front && distinct (held (b .places))) (each (counted (b .starts) (b .commits)) (held (b .places))) e)
 
 not-idle : (s : State) → (s ≡ State.Idle → ⊥) → not (isIdle s) ≡ true
 not-idle State.Idle h = absurd (h refl)

@@ -25,11 +25,11 @@ use Rattle.steps.specs.Shape.{inShape}
 use Rattle.steps.specs.Spent.{spent, free, reusable}
 use Rattle.steps.specs.Step.{Outcome, answered, done, draft, numberAt, readAs, updatedAs, step}
 use Rattle.steps.proofs.Cases.{Cleared, on-step, on-read, on-update, open-of}
-use Rattle.steps.proofs.Keeps.{keeps-shape}
+use Rattle.steps.proofs.Keeps.{shape-of, keeps-shape}
 use Rattle.history.specs.History.{Ledger, tick, accept, refuse, note, sees}
 use Rattle.history.proofs.Basics.{cases, clash, or-cases}
 use Rattle.history.proofs.Facts.{cellAt, Draft, own-draft, no-draft, spent-facts}
-use Rattle.history.proofs.Link.{busy, Linked, shape-numbers, own-cell}
+use Rattle.history.proofs.Link.{busy, Linked, own-cell}
 use Rattle.history.proofs.Seen.{open-busy, read-right, contested-conflict}
 use Rattle.history.proofs.Write.{spent-successor, write-links}
 use Rattle.history.proofs.Turn.{tick-links, read-links, turn-links, start-links}
@@ -126,7 +126,7 @@ module _ (b : Board) (ws : List ℕ) (L : Ledger) (𝓛 : Linked b (cellsOf ws) 
       let d = own-draft (numberAt b p) k cs i f in
       rw (cells-with ws (set cs i (valued v (cellAt cs i))), valued-draft (cellAt cs i) k v (numberAt b p) d)
       (own-links p k v i l o (own-found k (numberAt b p) cs i f .inside) d))
-      (λ n t s. turn-links b cs L 𝓛 p State.Spoiled l spoiled≢idle spoiled≢open (shape-numbers _ _ s))
+      (λ n t s. turn-links b cs L 𝓛 p State.Spoiled l spoiled≢idle spoiled≢open (shape-of _ _ s .apart))
       (λ n t i f s.
       rw (cells-with ws (set cs i (draft k v (numberAt b p))))
       (free-links p k v l o i (lowest-found (free (b .places) cs) cs i f) (λ j d. no-draft (numberAt b p) k cs j n d)))
@@ -144,18 +144,18 @@ module _ (b : Board) (ws : List ℕ) (L : Ledger) (𝓛 : Linked b (cellsOf ws) 
   done-links : (c : Call) → Cleared b (length ws) c → Kept c (done b ws c)
   unfolding accept
   done-links (Call.Start p) g s =
-      start-links b cs L 𝓛 p (leb-false _ _ (g .place)) (idle-of _ (not-false _ (g .busy))) (shape-numbers _ _ s)
+      start-links b cs L 𝓛 p (leb-false _ _ (g .place)) (idle-of _ (not-false _ (g .busy))) (shape-of _ _ s .apart)
   done-links (Call.Read p k) g s = read-kept p k s
   done-links (Call.Update p k v) g s =
       update-links p k v (leb-false _ _ (g .place)) (open-of (placeAt b p .state) (g .idle) (g .spoiled) (g .held)) s
   done-links (Call.Prepare p) g s =
-      turn-links b cs L 𝓛 p State.Prepared (leb-false _ _ (g .place)) prepared≢idle prepared≢open (shape-numbers _ _ s)
+      turn-links b cs L 𝓛 p State.Prepared (leb-false _ _ (g .place)) prepared≢idle prepared≢open (shape-of _ _ s .apart)
   done-links (Call.Commit p) g s =
       rw (cells-with ws (map _ cs))
-      (commit-links b cs L 𝓛 p (leb-false _ _ (g .place)) (opened p (g .idle)) (shape-numbers _ _ s))
+      (commit-links b cs L 𝓛 p (leb-false _ _ (g .place)) (opened p (g .idle)) (shape-of _ _ s .apart))
   done-links (Call.Rollback p) g s =
       rw (cells-with ws (map _ cs))
-      (rollback-links b cs L 𝓛 p (leb-false _ _ (g .place)) (opened p (g .idle)) (shape-numbers _ _ s))
+      (rollback-links b cs L 𝓛 p (leb-false _ _ (g .place)) (opened p (g .idle)) (shape-of _ _ s .apart))
 
   pub step-links : (c : Call) → inShape b (length ws) ≡ true
       → Linked (step b ws c .board) (cellsOf (step b ws c .words)) (note L c (step b ws c .number) (step b ws c .value))

@@ -21,6 +21,7 @@ AsTold s = fromFresh (s .cells) (map (λ (t : Turn). t .call) (s .turns)) .pairs
 
 -- CHEATS
 
+-- the same number and value
 abbrev pub sameAnswer : Answer → Answer → Bool
 sameAnswer a c = eqb (numberOf a) (numberOf c) && eqb (valueOf a) (valueOf c)
 
@@ -44,6 +45,7 @@ caught c =
     && sameAnswer (verdict (ledger (map pairOf (c .before))) (c .call)) (c .right)
     && not (sameAnswer (c .cheating) (c .right))
 
+-- all of them
 abbrev pub allCaught : List Cheat → Bool
 allCaught [] = true
 allCaught (c ∷ cs) = caught c && allCaught cs

@@ -27,6 +27,7 @@ pub record Pair : Type 0 where
   pub number : ℕ
   pub value : ℕ
 
+-- the call, answered with this number and this value
 abbrev pub answeredBy : Call → ℕ → ℕ → Pair
 answeredBy c n v = record { call = c; number = n; value = v }
 
@@ -51,6 +52,7 @@ lastWrite [] k = none
 lastWrite (read j v ∷ es) k = lastWrite es k
 lastWrite (write j v ∷ es) k = cond (eqb k j) (some v) (lastWrite es k)
 
+-- the events wrote the key
 abbrev pub Wrote : List Event → ℕ → Type 0
 Wrote es k = (v : ℕ) × (lastWrite es k ≡ some v)
 
@@ -69,9 +71,11 @@ pub record Done : Type 0 where
   pub seen : ℕ
   pub did : List Event
 
+-- an idle place
 abbrev pub nobody : Run
 nobody = record { state = State.Idle; began = 0; seen = 0; did = [] }
 
+-- what stands where no transaction has committed
 abbrev pub nothing : Done
 nothing = record { began = 0; ended = 0; seen = 0; did = [] }
 
@@ -84,9 +88,11 @@ pub record Ledger : Type 0 where
   pub at : ℕ → Run
   pub past : List Done
 
+-- before the first call
 abbrev pub newLedger : Ledger
 newLedger = record { calls = 0; starts = 0; at = λ p. nobody; past = [] }
 
+-- the committed transaction m, the first being 0
 abbrev pub doneAt : Ledger → ℕ → Done
 doneAt L m = getD (L .past) m nothing
 
@@ -137,10 +143,11 @@ refuse L (Call.Prepare p) n = tick L (L .at) (L .past)
 refuse L (Call.Commit p) n = tick L (L .at) (L .past)
 refuse L (Call.Rollback p) n = tick L (L .at) (L .past)
 
--- one more pair
+-- one more pair: a call, its answer's number and value
 abbrev pub note : Ledger → Call → ℕ → ℕ → Ledger
 note L c n v = cond (isOk n) (accept L c v) (refuse L c n)
 
+-- the pairs one after the other
 unfoldable pub ledgerFrom : Ledger → List Pair → Ledger
 ledgerFrom L [] = L
 ledgerFrom L (h ∷ hs) = ledgerFrom (note L (h .call) (h .number) (h .value)) hs
@@ -233,6 +240,7 @@ holds b ws k = newestSeen k (b .commits) (cellsOf ws) .value
 abbrev pub LastHolds : List Pair → Board → List ℕ → Type 0
 LastHolds hs b ws = (k : ℕ) → holds b ws k ≡ leave (ledger hs .past) k
 
+-- all four sentences, of what a sequence of calls comes to
 pub record Demand3 (played : Play) : Type 0 where
   pub reads : ReadsRight (played .pairs)
   pub apart : OverlappedApart (played .pairs)

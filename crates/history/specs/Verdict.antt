@@ -24,6 +24,7 @@ unfoldable pub anyBelow : ℕ → (ℕ → Bool) → Bool
 anyBelow zero t = false
 anyBelow (suc n) t = t n || anyBelow n t
 
+-- there is one
 abbrev pub isSome : Option ℕ → Bool
 isSome none = false
 isSome (some v) = true

@@ -3,7 +3,7 @@
 use mathlib.Core.Path.{_≡_, refl, sym, ap, _∙_}
 use mathlib.Core.Bool.{Bool, true, false, cond}
 use mathlib.Core.List.{List}
-use Prim.Native.Nat.{ℕ, zero, suc, _+_}
+use Prim.Native.Nat.{ℕ, zero, suc}
 use native.Mathlib.Omega.{arith}
 use Rattle.records.specs.declared.Answer.{Answer}
 use Rattle.records.specs.declared.Call.{Call}
@@ -11,7 +11,7 @@ use Rattle.records.specs.declared.CallRead.{CallRead}
 use Rattle.records.specs.Answers.{numberOf, valueOf}
 use Rattle.steps.specs.declared.Board.{Board}
 use Rattle.steps.specs.declared.Answered.{Answered}
-use Rattle.steps.specs.Step.{Outcome, outcome, step}
+use Rattle.steps.specs.Step.{outcome, step}
 use Rattle.lane_c.specs.Words.{recordOf, wordsOfRecord, wellFormed}
 use Rattle.lane_c.specs.Call.{callNamed, upper, lower, Crossed, crossed, refusedWith, outcomeWords, stepOnWords, onNamed, laneCall}
 

@@ -1,7 +1,7 @@
 -- What a turn, and the end, of the loops of `load` and `save` come to: the places read, and the words written, are the first of those wanted.
 -- Assumes nothing.
-use mathlib.Core.Path.{_≡_, refl, sym, ap, _∙_}
-use mathlib.Core.List.{List, [], _∷_, _++_}
+use mathlib.Core.Path.{_≡_, refl, sym, _∙_}
+use mathlib.Core.List.{List, [], _∷_}
 use Prim.Native.Nat.{ℕ, _+_, _*_, _<_, _≤_}
 use native.Mathlib.Omega.{arith}
 use lib.ListN.{length, getD, set, take, length-set}
@@ -9,7 +9,7 @@ use Rattle.steps.specs.declared.State.{State}
 use Rattle.steps.specs.declared.Place.{Place}
 use Rattle.steps.specs.declared.Board.{Board}
 use Rattle.steps.specs.Record.{allPlaces, idlePlace, placeAt}
-use Rattle.lane_c.specs.Words.{recordWords, stateWord, stateOf, placesOf, wordsOfPlaces, wordsOfRecord}
+use Rattle.lane_c.specs.Words.{recordWords, stateWord, stateOf, placesOf, wordsOfRecord}
 use Rattle.lane_c.proofs.Laws.{take-next, take-whole}
 use Rattle.lane_c.proofs.Words.{length-places, place-read, length-all, word-at, counts-at}
 

@@ -1,16 +1,18 @@
 -- Words and records: where a place's words stand, and that words and records are each other's inverse.
---     place-read                      what three reads at a place's words are
---     places-left, counts-at          where a place and the counts stand in the words of a record
---     record-words, words-record      theorems: the record of a record's words is the record; the words of the record of well formed
---                                     words are the words
+--     place-read                 what three reads at a place's words are
+--     word-at, counts-at         where a place and the counts stand in the words of a record
+--     states-..                  what the state words that are left say
+--     record-words               theorem: the record of a record's words is the record
+--     words-record               theorem: the words of the record of well formed words are the words
+--     well-words, fresh-words    the words of a record are well formed; 50 zeros are the fresh record
 -- Assumes nothing.
-use mathlib.Core.Path.{_≡_, refl, sym, ap, _∙_}
-use mathlib.Core.Bool.{Bool, true, false, _&&_}
+use mathlib.Core.Path.{_≡_, refl, ap, _∙_}
+use mathlib.Core.Bool.{true, false, _&&_}
 use mathlib.Core.List.{List, [], _∷_, _++_}
 use Prim.Native.Nat.{ℕ, zero, suc, _+_, _*_, _/_, _<_, _≤_}
 use native.Mathlib.Omega.{arith}
 use lib.Dec.{eqb, leb}
-use lib.ListN.{length, getD, set, take, drop, replicate, length-append, length-set, drop-of-length-le}
+use lib.ListN.{length, getD, drop, replicate, length-append, drop-of-length-le}
 use lib.Seq.{getD-append-add}
 use borrow.Author.Tests.{leb-true, eqb-true, eq-eqb, le-leb, lt-leb}
 use Rattle.steps.specs.declared.State.{State}

@@ -1,6 +1,6 @@
 -- One call over words: what C and Rust hand in, and what comes back.
 -- Assumes nothing.
-use mathlib.Core.Bool.{Bool, cond}
+use mathlib.Core.Bool.{cond}
 use mathlib.Core.List.{List, [], _∷_}
 use Prim.Native.Nat.{ℕ, _/_, _%_}
 use lib.ListN.{getD}
@@ -21,10 +21,11 @@ callNamed kind place key value =
     kind
     CallRead.Record
 
--- the upper and the lower 32 bits of a 64-bit word
+-- the upper 32 bits of a 64-bit word
 abbrev pub upper : ℕ → ℕ
 upper r = r / 4_294_967_296
 
+-- the lower 32 bits
 abbrev pub lower : ℕ → ℕ
 lower r = r % 4_294_967_296
 

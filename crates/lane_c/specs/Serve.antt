@@ -1,6 +1,6 @@
 -- Bytes of call records over words: what C and Rust hand in, and what comes back.
 -- Assumes nothing.
-use mathlib.Core.Bool.{Bool, cond}
+use mathlib.Core.Bool.{cond}
 use mathlib.Core.List.{List}
 use Prim.Native.Nat.{ℕ}
 use Rattle.lanes.specs.declared.Stop.{Stop}
@@ -27,6 +27,7 @@ pub record Handed : Type 0 where
   pub cells : List ℕ
   pub answers : List ℕ
 
+-- what the function returned, with the lent words and bytes as it left them
 abbrev pub handed : LaneServed → List ℕ → List ℕ → List ℕ → Handed
 handed r ws cs answers =
     record { taken = r .taken; written = r .written; why = r .why; words = ws; cells = cs; answers = answers }

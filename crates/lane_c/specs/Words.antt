@@ -13,10 +13,11 @@ use Rattle.steps.specs.declared.Board.{Board}
 abbrev pub recordWords : ℕ
 recordWords = 50
 
--- word 48 the start count, word 49 the commit count
+-- word 48 the start count
 abbrev pub startsAt : ℕ
 startsAt = 48
 
+-- word 49 the commit count
 abbrev pub commitsAt : ℕ
 commitsAt = 49
 

@@ -13,6 +13,24 @@ ghost use Rattle.lane_c.specs.Call.{callNamed, upper, lower, crossed, st
 ghost use Rattle.lane_c.specs.Serve.{whyOf, handed, laneServe};
 ghost use Rattle.lane_c.specs.Words.{recordWords, stateWord, stateOf, recordOf, wordsOfRecord, wellFormed};
 
+// How far `lane_serve` got: bytes of calls taken, bytes of answers written, and why it stopped.
+#[repr(C)]
+pub struct LaneServed {
+    pub taken: u64,
+    pub written: u64,
+    pub why: u32,
+}
+
+// Three words for each of sixteen places, and the two counts.
+const WORDS: usize = 50;
+
+const STARTS: usize = 48;
+
+const COMMITS: usize = 49;
+
+// What one in the upper 32 bits counts.
+const UPPER: u64 = 4_294_967_296;
+
 // One call on a record held as 50 words: the refusal number in the upper and the value in the lower 32 bits.
 #[no_mangle]
 pub extern "C" fn lane_call(
@@ -29,29 +47,6 @@ pub extern "C" fn lane_call(
         CallRead::Good(call) => step_on_words(words, cells, call),
         CallRead::Record => answer_word(Answer::Record),
     }
-}
-
-// A call on a record held as words: BOARD where they are none, otherwise its step.
-fn step_on_words(words: &mut [u32], cells: &mut [u32], call: Call) -> u64
-    ensures { λ r. ⌜ crossed r (now (words .exit)) (now (cells .exit)) ≡ stepOnWords (now (words .entry)) (now (cells .entry)) call ⌝ }
-{
-    if !well_formed(words) {
-        return answer_word(Answer::Board);
-    }
-    let before = load(words);
-    let done = lanes::call(before, cells, call);
-    let after = done.board;
-    save(words, after);
-    let answer = done.answer;
-    answer_word(answer)
-}
-
-// How far `lane_serve` got: bytes of calls taken, bytes of answers written, and why it stopped.
-#[repr(C)]
-pub struct LaneServed {
-    pub taken: u64,
-    pub written: u64,
-    pub why: u32,
 }
 
 // Call records answered one after another, on a record held as 50 words.
@@ -84,15 +79,19 @@ pub extern "C" fn lane_serve(
     }
 }
 
-// The number of a reason to stop.
-fn why_of(stop: Stop) -> u32
-    ensures { λ r. ⌜ r ≡ whyOf stop ⌝ }
+// A call on a record held as words: BOARD where they are none, otherwise its step.
+fn step_on_words(words: &mut [u32], cells: &mut [u32], call: Call) -> u64
+    ensures { λ r. ⌜ crossed r (now (words .exit)) (now (cells .exit)) ≡ stepOnWords (now (words .entry)) (now (cells .entry)) call ⌝ }
 {
-    match stop {
-        Stop::End => 0,
-        Stop::Record => 1,
-        Stop::Room => 2,
+    if !well_formed(words) {
+        return answer_word(Answer::Board);
     }
+    let before = load(words);
+    let done = lanes::call(before, cells, call);
+    let after = done.board;
+    save(words, after);
+    let answer = done.answer;
+    answer_word(answer)
 }
 
 // The call that a kind names.
@@ -117,15 +116,16 @@ fn answer_word(a: Answer) -> u64
     (records::number(a) as u64) * UPPER + (records::value(a) as u64)
 }
 
-// Three words for each of sixteen places, and the two counts.
-const WORDS: usize = 50;
-
-const STARTS: usize = 48;
-
-const COMMITS: usize = 49;
-
-// What one in the upper 32 bits counts.
-const UPPER: u64 = 4_294_967_296;
+// The number of a reason to stop.
+fn why_of(stop: Stop) -> u32
+    ensures { λ r. ⌜ r ≡ whyOf stop ⌝ }
+{
+    match stop {
+        Stop::End => 0,
+        Stop::Record => 1,
+        Stop::Room => 2,
+    }
+}
 
 // The word of a state.
 fn state_word(state: State) -> u32

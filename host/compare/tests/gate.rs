@@ -123,7 +123,9 @@ fn the_four_shortcuts_are_caught() {
         ];
         for (comparison, difference) in found {
             let difference = difference.unwrap_or_else(|| panic!("{comparison} did not catch {}", shortcut.name()));
-            say(&format!("{comparison} caught {}: {difference:?}", shortcut.name()));
+            // the case in full where it is shortest, as a sequence of calls on a fresh board
+            let case = if comparison == "sequences" { format!(": {difference:?}") } else { String::new() };
+            say(&format!("{comparison} caught {}{case}", shortcut.name()));
         }
     }
 }

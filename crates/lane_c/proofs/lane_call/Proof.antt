@@ -1,6 +1,6 @@
 -- `lane_c::lane_call` meets its contract. Assumes nothing.
 use borrow.Author.Needs.{needs}
-use mathlib.Core.Path.{_≡_, sym, _∙_}
+use mathlib.Core.Path.{sym, _∙_}
 use Rattle.lane_c.proofs.Calls.{lane-good, lane-record}
 use Rattle.lane_c.proofs.lane_call.Statement.{statement}
 use Rattle.lane_c.proofs.lane_call.Tie as tie

@@ -1,11 +1,10 @@
 -- `lane_c::load` meets its contract. The invariant: the places read are the first of those in the words. Assumes nothing.
 use borrow.Author.Needs.{needs}
-use mathlib.Core.Path.{_≡_, refl, sym, ap, _∙_}
-use Prim.Native.Nat.{_+_, _*_, _-_, _<_, _≤_}
-use native.Mathlib.Omega.{arith}
-use lib.ListN.{length, getD, take}
-use Rattle.steps.specs.Record.{allPlaces, idlePlace}
-use Rattle.lane_c.specs.Words.{recordWords, placesOf, recordOf}
+use mathlib.Core.Path.{_≡_, refl, ap}
+use Prim.Native.Nat.{_-_, _≤_}
+use lib.ListN.{length, take}
+use Rattle.steps.specs.Record.{allPlaces}
+use Rattle.lane_c.specs.Words.{placesOf, recordOf}
 use Rattle.steps.specs.declared.Board.{Board}
 use Rattle.lane_c.proofs.Turns.{load-turn, load-end}
 use Rattle.lane_c.proofs.load.Statement.{statement}
@@ -69,8 +68,13 @@ loop-again : tie.Need-loop-again Inv-loop μ-loop
 loop-again c =
     let at = c .before .before .before .before .before .loop in
     let ws = c .before .before .before .before .before .before .before .before .before .args .words .now in
-    let f = c .before .before .state-of .ensures in
-    (search needs, (search needs, load-turn ws (search needs) (at .places) (search needs) (at .i) _ (search needs) f (at .inv .1 .1)))
+    let f = c .before .before .state-of .ensures in (
+      search needs,
+      (
+        search needs,
+        load-turn ws (search needs) (at .places) (search needs) (at .i) _ (search needs) f (at .inv .1 .1),
+      ),
+    )
 
 shared-slice-read-t25 : tie.Need-shared-slice-read-t25 Inv-loop μ-loop
 shared-slice-read-t25 c = search needs
@@ -83,7 +87,9 @@ unfolding recordOf
 returns c =
     let at = c .before .before .before .loop in
     let ws = c .before .before .before .before .before .before .before .args .words .now in
-    let e : at .places ≡ placesOf ws = load-end ws (search needs) (at .places) (search needs) (at .i) (search needs) (search needs) (at .inv .1 .1) in
+    let e : at .places ≡ placesOf ws =
+    load-end ws (search needs) (at .places) (search needs) (at .i) (search needs) (search needs) (at .inv .1 .1)
+    in
     rw e
 
 pub load-spec : {M : Type 1} → statement M

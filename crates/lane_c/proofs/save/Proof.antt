@@ -1,10 +1,10 @@
 -- `lane_c::save` meets its contract. The invariant: the words written are the first of the record's. Assumes nothing.
 use borrow.Author.Needs.{needs}
-use mathlib.Core.Path.{_≡_, refl, sym, ap, _∙_}
-use Prim.Native.Nat.{_+_, _*_, _-_, _<_, _≤_}
+use mathlib.Core.Path.{_≡_, refl}
+use Prim.Native.Nat.{_*_, _-_, _≤_}
 use native.Mathlib.Omega.{arith}
-use lib.ListN.{length, getD, take, length-set}
-use Rattle.steps.specs.Record.{allPlaces, idlePlace}
+use lib.ListN.{length, take, length-set}
+use Rattle.steps.specs.Record.{allPlaces}
 use Rattle.lane_c.specs.Words.{recordWords, wordsOfRecord}
 use Rattle.steps.proofs.Places.{long}
 use Rattle.lane_c.proofs.Turns.{save-turn, save-end}
@@ -12,7 +12,8 @@ use Rattle.lane_c.proofs.save.Statement.{statement}
 use Rattle.lane_c.proofs.save.Tie as tie
 
 abbrev Inv-loop : tie.InvT-loop
-Inv-loop words₀ b i₀ words i = (i ≤ allPlaces) × ((length words ≡ recordWords) × (take (3 * i) words ≡ take (3 * i) (wordsOfRecord b)))
+Inv-loop words₀ b i₀ words i =
+    (i ≤ allPlaces) × ((length words ≡ recordWords) × (take (3 * i) words ≡ take (3 * i) (wordsOfRecord b)))
 
 abbrev μ-loop : tie.MeasureT-loop
 μ-loop words₀ b i₀ words i = allPlaces - i
@@ -85,7 +86,8 @@ same-length c = simp length-set (omega arith)
 returns : tie.Need-returns Inv-loop μ-loop
 returns c =
     let at = c .before .loop in
-    save-end (at .words) (at .inv .1 .0) (c .before .before .before .args .t2) (search long) (at .i) (search needs) (search needs) (at .inv .1 .1)
+    let b = c .before .before .before .args .t2 in
+    save-end (at .words) (at .inv .1 .0) b (search long) (at .i) (search needs) (search needs) (at .inv .1 .1)
 
 pub save-spec : {M : Type 1} → statement M
 save-spec =

@@ -1,11 +1,10 @@
 -- `lane_c::well_formed` meets its contract. The loop's invariant: the answer is what the state words left say. Assumes nothing.
 use borrow.Author.Needs.{needs}
-use borrow.Author.Tests.{eq-eqb, ne-eqb, le-leb, lt-leb}
-use mathlib.Core.Path.{_≡_, sym, ap, _∙_}
-use mathlib.Core.Bool.{true, false, _&&_}
-use Prim.Native.Nat.{_+_, _*_, _-_, _<_, _≤_}
+use borrow.Author.Tests.{eq-eqb, ne-eqb}
+use mathlib.Core.Path.{_≡_, sym, _∙_}
+use Prim.Native.Nat.{_*_, _-_, _≤_}
 use native.Mathlib.Omega.{arith}
-use lib.ListN.{length, getD, drop, length-drop}
+use lib.ListN.{length, drop, length-drop}
 use denote.Ref.{now}
 use Rattle.lane_c.specs.Words.{recordWords, statesFit, wellFormed}
 use Rattle.lane_c.proofs.Words.{states-on, states-off, states-none}
