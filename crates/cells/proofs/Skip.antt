@@ -1,7 +1,7 @@
 -- Skips: cells that a quick scan passes over because none of them passes its test.
 --     eight-more     what holds of each number below i holds below i + 8, where none of eight cells passes
 --     skip           a scan from i on is the scan from r on, where none of the cells between passes
---     to-over        the same for a loop that changes each cell in turn, where committed cells stay as they are
+--     to-over        the same for a loop that changes each cell in turn, where cells with another number stay as they are
 -- Assumes nothing.
 use mathlib.Core.Path.{_≡_, refl, sym, ap, _∙_}
 use mathlib.Core.Bool.{Bool, true, false, not, _&&_, _||_, true≢false}
@@ -28,9 +28,9 @@ or-right true b e = absurd (true≢false e)
 or-right false b e = e
 
 -- what a test of a cell's part said, of what the cell equals
-pub part-told : (commit : Bool) (word : ℕ) {c x : Cell} {r : ℕ} {t : Bool} → c ≡ x → r ≡ partOf commit c → eqb r word ≡ t
-    → partIs commit word x ≡ t
-part-told commit word e a h = sym (ap (partIs commit word) e) ∙ sym (ap (λ (m : ℕ). eqb m word) a) ∙ h
+pub part-told : (number : Bool) (word : ℕ) {c x : Cell} {r : ℕ} {t : Bool} → c ≡ x → r ≡ partOf number c → eqb r word ≡ t
+    → partIs number word x ≡ t
+part-told number word e a h = sym (ap (partIs number word) e) ∙ sym (ap (λ (m : ℕ). eqb m word) a) ∙ h
 
 -- the cell of a number from `from` on does not pass
 abbrev pub Passed : (Cell → Bool) → List Cell → ℕ → ℕ → Type 0
@@ -101,17 +101,19 @@ module _ (p q : Cell → Bool) (only : (c : Cell) → q c ≡ false → p c ≡ 
 pub between-other : (c : Cell) (view : ℕ) (d : Cell) → partIs false (c .word) d ≡ false → between c view d ≡ false
 between-other c view d e = ap (λ (t : Bool). t && committed d && ltb (c .commit) (d .commit) && leb (d .commit) view) e
 
--- a committed cell is nobody's own
-no-own : (a b c : Bool) → b ≡ false → (a && b && c) ≡ false
-no-own true b c e = ap (λ (t : Bool). t && c) e
+-- a cell with another number is not own
+no-own : (a b c : Bool) → c ≡ false → (a && b && c) ≡ false
+no-own true true c e = e
+no-own true false c e = refl
 no-own false b c e = refl
 
-pub committed-not-own : (number : ℕ) (c : Cell) → partIs true 0 c ≡ false → own number c ≡ false
-committed-not-own number c e = no-own (not (empty c)) (eqb (c .commit) 0) (eqb (c .number) number) e
+pub other-not-own : (number : ℕ) (c : Cell) → partIs true number c ≡ false → own number c ≡ false
+other-not-own number c e = no-own (not (empty c)) (eqb (c .commit) 0) (eqb (c .number) number) e
 
-module _ (f : Cell → Cell) (stays : (c : Cell) → partIs true 0 c ≡ false → f c ≡ c) (ws : List ℕ) where
-  -- from cell i on to the next uncommitted one nothing is to be changed
-  pub to-over : (now : List ℕ) (i r : ℕ) → now ≡ withCells ws (mapTo i f (cellsOf ws)) → NextAt (partIs true 0) i (cellsOf now) r
+module _ (f : Cell → Cell) (number : ℕ) (stays : (c : Cell) → partIs true number c ≡ false → f c ≡ c) (ws : List ℕ) where
+  -- from cell i on to the next one with the number nothing is to be changed
+  pub to-over : (now : List ℕ) (i r : ℕ) → now ≡ withCells ws (mapTo i f (cellsOf ws))
+      → NextAt (partIs true number) i (cellsOf now) r
       → now ≡ withCells ws (mapTo r f (cellsOf ws))
   to-over now i r e told =
       let cs = cellsOf ws in
@@ -122,4 +124,4 @@ module _ (f : Cell → Cell) (stays : (c : Cell) → partIs true 0 c ≡ false �
       e
       ∙ ap (withCells ws)
       (mapTo-skip i r f cs noCell (told .onward)
-      (λ k a b. stays (getD cs k noCell) (sym (ap (partIs true 0) (same k b)) ∙ told .passed k a b)))
+      (λ k a b. stays (getD cs k noCell) (sym (ap (partIs true number) (same k b)) ∙ told .passed k a b)))

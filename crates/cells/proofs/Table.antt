@@ -32,12 +32,29 @@ module _ (t : List ℕ) (w n : ℕ) where
   pub raise-past : allTops ≤ w → t ≡ raised t w n
   raise-past h = sym (λ i. chosen (le-ltb w allTops h i && ltb (getD t w 0) n))
 
+  -- an uncommitted cell leaves every table as it is
+  raise-none : n ≡ 0 → t ≡ raised t w n
+  raise-none e =
+      let below : ltb (getD t w 0) n ≡ false = le-ltb (getD t w 0) n (omega arith) in
+      sym ((λ i. chosen (ltb w allTops && below i)) ∙ ap chosen (and-none (ltb w allTops)))
+    where
+      and-none : (a : Bool) → (a && false) ≡ false
+      and-none true = refl
+      and-none false = refl
+
   length-raised : length (raised t w n) ≡ length t
   length-raised = same (ltb w allTops && ltb (getD t w 0) n)
     where
       same : (b : Bool) → length (chosen b) ≡ length t
       same true = length-set t w n
       same false = refl
+
+pub uncommitted-leaves : (p : Cell → Bool) (t : List ℕ) (c : Cell) → c .commit ≡ 0 → t ≡ raisedBy p t c
+uncommitted-leaves p t c e = by-test (p c)
+  where
+    by-test : (b : Bool) → t ≡ cond b (raised t (c .word) (c .commit)) t
+    by-test true = raise-none t (c .word) (c .commit) e
+    by-test false = refl
 
 module _ (p : Cell → Bool) (t : List ℕ) (ws : List ℕ) (i : ℕ) where
   tops-turn : i < length ws / 4

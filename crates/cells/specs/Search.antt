@@ -13,14 +13,14 @@ use Rattle.cells.specs.declared.Looked.{Looked}
 use Rattle.cells.specs.Cells.{noCell, ofKey, own, foreign, seenBy}
 use Rattle.cells.specs.Rules.{pickFound, pickCell, clashes, hasCell, newer}
 
--- a cell's commit number, or its first word
+-- a cell's transaction number, or its first word
 abbrev pub partOf : Bool → Cell → ℕ
-partOf true c = c .commit
+partOf true c = c .number
 partOf false c = c .word
 
 -- that part is this word
 abbrev pub partIs : Bool → ℕ → Cell → Bool
-partIs commit word c = eqb (partOf commit c) word
+partIs number word c = eqb (partOf number c) word
 
 -- one of four cells from i on passes a test
 abbrev pub fourHave : (Cell → Bool) → ℕ → List Cell → Bool

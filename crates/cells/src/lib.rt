@@ -308,11 +308,11 @@ pub fn stamp(cells: &mut [u32], number: u32, commit: u32)
     ensures { λ r. ⌜ now (cells .exit) ≡ withCells (now (cells .entry)) (map (stamped number commit) (cellsOf (now (cells .entry)))) ⌝ }
 {
     let n = count(cells);
-    let mut at = next(cells, 0, true, 0);
+    let mut at = next(cells, 0, true, number);
     while at < n {
         let c = cell_at(cells, at).stamped(number, commit);
         put_cell(cells, at, c);
-        at = next(cells, at + 1, true, 0);
+        at = next(cells, at + 1, true, number);
     }
 }
 
@@ -321,48 +321,48 @@ pub fn wipe(cells: &mut [u32], number: u32)
     ensures { λ r. ⌜ now (cells .exit) ≡ withCells (now (cells .entry)) (map (wiped number) (cellsOf (now (cells .entry)))) ⌝ }
 {
     let n = count(cells);
-    let mut i = next(cells, 0, true, 0);
+    let mut i = next(cells, 0, true, number);
     while i < n {
         let c = cell_at(cells, i).wiped(number);
         put_cell(cells, i, c);
-        i = next(cells, i + 1, true, 0);
+        i = next(cells, i + 1, true, number);
     }
 }
 
 impl Cell {
-    // The commit number, or the first word
-    fn part(self, commit: bool) -> u32
-        ensures { λ r. ⌜ r ≡ partOf commit self ⌝ }
+    // The transaction number, or the first word
+    fn part(self, number: bool) -> u32
+        ensures { λ r. ⌜ r ≡ partOf number self ⌝ }
     {
-        if commit { self.commit } else { self.word }
+        if number { self.number } else { self.word }
     }
 }
 
 // Whether one of four cells from i on has this word for that part
-fn four_have(cells: &[u32], i: usize, commit: bool, word: u32) -> bool
+fn four_have(cells: &[u32], i: usize, number: bool, word: u32) -> bool
     requires { ⌜ i + 3 < countOf (length (now cells)) ⌝ }
-    ensures { λ r. ⌜ r ≡ fourHave (partIs commit word) i (cellsOf (now (cells .entry))) ⌝ }
+    ensures { λ r. ⌜ r ≡ fourHave (partIs number word) i (cellsOf (now (cells .entry))) ⌝ }
 {
-    (cell_at(cells, i).part(commit) == word)
-        | (cell_at(cells, i + 1).part(commit) == word)
-        | (cell_at(cells, i + 2).part(commit) == word)
-        | (cell_at(cells, i + 3).part(commit) == word)
+    (cell_at(cells, i).part(number) == word)
+        | (cell_at(cells, i + 1).part(number) == word)
+        | (cell_at(cells, i + 2).part(number) == word)
+        | (cell_at(cells, i + 3).part(number) == word)
 }
 
 // The first cell from `from` on that has this word for that part, or the end: eight are looked at in one go
-fn next(cells: &[u32], from: usize, commit: bool, word: u32) -> usize
-    ensures { λ r. ⌜ NextAt (partIs commit word) from (cellsOf (now (cells .entry))) r ⌝ }
+fn next(cells: &[u32], from: usize, number: bool, word: u32) -> usize
+    ensures { λ r. ⌜ NextAt (partIs number word) from (cellsOf (now (cells .entry))) r ⌝ }
 {
     let n = count(cells);
     let mut i = from;
     while i < n {
         if 8 <= n - i {
-            if !(four_have(cells, i, commit, word) | four_have(cells, i + 4, commit, word)) {
+            if !(four_have(cells, i, number, word) | four_have(cells, i + 4, number, word)) {
                 i += 8;
                 continue;
             }
         }
-        if cell_at(cells, i).part(commit) == word {
+        if cell_at(cells, i).part(number) == word {
             return i;
         }
         i += 1;
@@ -475,6 +475,9 @@ pub fn tops_of(cells: &[u32], view: u32) -> Tops
     while i < n {
         let c = cell_at(cells, i);
         i += 1;
+        if c.commit == 0 {
+            continue;
+        }
         let w = c.word as usize;
         raise(&mut all, w, c.commit);
         if c.commit <= view {

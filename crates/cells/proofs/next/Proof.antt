@@ -14,11 +14,11 @@ use Rattle.cells.proofs.next.Statement.{statement}
 use Rattle.cells.proofs.next.Tie as tie
 
 abbrev Inv-loop : tie.InvT-loop
-Inv-loop cells from commit word n i₀ i =
-    (from ≤ i) × ((k : ℕ) → k < i → from ≤ k → partIs commit word (getD (cellsOf cells) k noCell) ≡ false)
+Inv-loop cells from number word n i₀ i =
+    (from ≤ i) × ((k : ℕ) → k < i → from ≤ k → partIs number word (getD (cellsOf cells) k noCell) ≡ false)
 
 abbrev μ-loop : tie.MeasureT-loop
-μ-loop cells from commit word n i₀ i = n - i
+μ-loop cells from number word n i₀ i = n - i
 
 count-requires : tie.Need-count-requires Inv-loop μ-loop
 count-requires c κs = search needs
@@ -48,7 +48,7 @@ loop-again : tie.Need-loop-again Inv-loop μ-loop
 loop-again c =
     let l = c .before .before .before .before .before in
     let s = l .before .before .before .args in
-    let p = partIs (s .commit) (s .word) in
+    let p = partIs (s .number) (s .word) in
     let none = not-true (c .before .before .four-have .result || c .before .four-have2 .result) (c .if2 .taken) in
     (search needs, eight-more p (cellsOf (s .cells .now)) (s .from) (l .loop .i) (l .loop .inv .1) (cc))
 
@@ -62,7 +62,7 @@ returns : tie.Need-returns Inv-loop μ-loop
 returns c =
     let l = c .before .before .before .before .before in
     let s = l .before .before .before .args in
-    let here = part-told (s .commit) (s .word) (c .before .before .cell-at .ensures) (c .before .part .ensures) (eq-eqb _ _ (c .if3 .taken)) in
+    let here = part-told (s .number) (s .word) (c .before .before .cell-at .ensures) (c .before .part .ensures) (eq-eqb _ _ (c .if3 .taken)) in
     record { onward = search needs; passed = l .loop .inv .1; found = λ h. here }
 
 add-i-2 : tie.Need-add-i-2 Inv-loop μ-loop
@@ -75,7 +75,7 @@ loop-again-2 : tie.Need-loop-again-2 Inv-loop μ-loop
 loop-again-2 c =
     let l = c .before .before .before .before .before in
     let s = l .before .before .before .args in
-    let here = part-told (s .commit) (s .word) (c .before .before .cell-at .ensures) (c .before .part .ensures) (ne-eqb _ _ (c .if3 .left)) in
+    let here = part-told (s .number) (s .word) (c .before .before .cell-at .ensures) (c .before .part .ensures) (ne-eqb _ _ (c .if3 .left)) in
     (search needs, below-more _ _ (l .loop .inv .1) (λ g. here))
 
 returns-2 : tie.Need-returns-2 Inv-loop μ-loop

@@ -7,7 +7,7 @@ use Prim.Native.Nat.{ℕ, _+_, _-_, _≤_}
 use lib.ListN.{length, drop}
 use Rattle.cells.specs.Cells.{cellsOf}
 use Rattle.cells.specs.Search.{topsFrom, topsOf, anyCell, upTo, raised}
-use Rattle.cells.proofs.Table.{tops-next, tops-end}
+use Rattle.cells.proofs.Table.{tops-next, tops-end, uncommitted-leaves}
 use Rattle.cells.proofs.tops_of.Statement.{statement}
 use Rattle.cells.proofs.tops_of.Tie as tie
 
@@ -32,6 +32,24 @@ cell-at-requires c κs = search needs
 add-i : tie.Need-add-i Inv-loop μ-loop
 add-i c = search needs
 
+loop-less : tie.Need-loop-less Inv-loop μ-loop
+loop-less c = search needs
+
+loop-again : tie.Need-loop-again Inv-loop μ-loop
+loop-again c =
+    let l = c .before .before .before .before .loop in
+    let s = c .before .before .before .before .before .before .before .args in
+    let x = c .before .before .cell-at in
+    let none : x .result .commit ≡ 0 = c .if1 .taken in (
+      search needs,
+      l .inv .1
+          ∙ tops-next anyCell (l .all) (s .cells .now) (l .i) (search needs) (x .result) (x .ensures) (l .all)
+          (uncommitted-leaves anyCell (l .all) (x .result) none),
+      l .inv .2
+          ∙ tops-next (upTo (s .view)) (l .seen) (s .cells .now) (l .i) (search needs) (x .result) (x .ensures) (l .seen)
+          (uncommitted-leaves (upTo (s .view)) (l .seen) (x .result) none),
+    )
+
 cast-w : tie.Need-cast-w Inv-loop μ-loop
 cast-w c = search needs
 
@@ -41,14 +59,14 @@ raise-requires c κs = search needs
 raise-requires-2 : tie.Need-raise-requires-2 Inv-loop μ-loop
 raise-requires-2 c κs = search needs
 
-loop-less : tie.Need-loop-less Inv-loop μ-loop
-loop-less c = search needs
+loop-less-2 : tie.Need-loop-less-2 Inv-loop μ-loop
+loop-less-2 c = search needs
 
-loop-again : tie.Need-loop-again Inv-loop μ-loop
-loop-again c =
-    let l = c .before .before .before .before .before .before .before .before .before .loop in
-    let s = c .before .before .before .before .before .before .before .before .before .before .before .before .args in
-    let x = c .before .before .before .before .before .before .before .cell-at in
+loop-again-2 : tie.Need-loop-again-2 Inv-loop μ-loop
+loop-again-2 c =
+    let l = c .before .before .before .before .before .before .before .before .before .before .before .loop in
+    let s = c .before .before .before .before .before .before .before .before .before .before .before .before .before .before .args in
+    let x = c .before .before .before .before .before .before .before .before .before .cell-at in
     let all = c .before .before .before .before .raise in
     let e : upTo (s .view) (x .result) ≡ true = le-leb (x .result .commit) (s .view) (search needs) in (
       search needs,
@@ -59,14 +77,14 @@ loop-again c =
           (c .raise2 .ensures ∙ sym (ap (λ (b : Bool). cond b (raised (l .seen) (x .result .word) (x .result .commit)) (l .seen)) e)),
     )
 
-loop-less-2 : tie.Need-loop-less-2 Inv-loop μ-loop
-loop-less-2 c = search needs
+loop-less-3 : tie.Need-loop-less-3 Inv-loop μ-loop
+loop-less-3 c = search needs
 
-loop-again-2 : tie.Need-loop-again-2 Inv-loop μ-loop
-loop-again-2 c =
-    let l = c .before .before .before .before .before .before .before .loop in
-    let s = c .before .before .before .before .before .before .before .before .before .before .args in
-    let x = c .before .before .before .before .before .cell-at in
+loop-again-3 : tie.Need-loop-again-3 Inv-loop μ-loop
+loop-again-3 c =
+    let l = c .before .before .before .before .before .before .before .before .before .loop in
+    let s = c .before .before .before .before .before .before .before .before .before .before .before .before .args in
+    let x = c .before .before .before .before .before .before .before .cell-at in
     let all = c .before .before .raise in
     let e : upTo (s .view) (x .result) ≡ false = lt-leb (x .result .commit) (s .view) (search needs) in (
       search needs,
@@ -95,11 +113,13 @@ tops-of-spec =
     loop-holds
     cell-at-requires
     add-i
+    loop-less
+    loop-again
     cast-w
     raise-requires
     raise-requires-2
-    loop-less
-    loop-again
     loop-less-2
     loop-again-2
+    loop-less-3
+    loop-again-3
     returns)

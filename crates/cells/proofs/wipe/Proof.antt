@@ -10,14 +10,14 @@ use Rattle.cells.specs.Rules.{wiped}
 use Rattle.cells.specs.Search.{partIs}
 use Rattle.cells.proofs.Laws.{mapTo}
 use Rattle.cells.proofs.Scan.{to-none, to-at, to-next, to-end}
-use Rattle.cells.proofs.Skip.{to-over, committed-not-own}
+use Rattle.cells.proofs.Skip.{to-over, other-not-own}
 use Rattle.cells.proofs.Writes.{wiped-other}
 use Rattle.cells.proofs.wipe.Statement.{statement}
 use Rattle.cells.proofs.wipe.Tie as tie
 
--- a committed cell stays as it is
-stays : (number : ℕ) (c : Cell) → partIs true 0 c ≡ false → wiped number c ≡ c
-stays number c e = wiped-other number c (committed-not-own number c e)
+-- a cell with another number stays as it is
+stays : (number : ℕ) (c : Cell) → partIs true number c ≡ false → wiped number c ≡ c
+stays number c e = wiped-other number c (other-not-own number c e)
 
 abbrev Inv-loop : tie.InvT-loop
 Inv-loop cells₀ number n i₀ cells i =
@@ -36,7 +36,7 @@ loop-holds : tie.Need-loop-holds Inv-loop μ-loop
 loop-holds c =
     let s = c .before .before .before .before .before .args in
     let f = wiped (s .number) in
-    (search needs, to-over f (stays (s .number)) (s .cells .now) (s .cells .now) 0 _ (to-none f _) (c .next .ensures))
+    (search needs, to-over f (s .number) (stays (s .number)) (s .cells .now) (s .cells .now) 0 _ (to-none f _) (c .next .ensures))
 
 cell-at-requires : tie.Need-cell-at-requires Inv-loop μ-loop
 cell-at-requires c κs = search needs
@@ -64,7 +64,7 @@ loop-again c =
     let ws = s .cells .now in
     let i = l .loop .i in (
       search needs,
-      to-over f (stays (s .number)) ws _ (i + 1) _ (cc (to-at f ws i, to-next ws i (search needs) f)) (c .next2 .ensures),
+      to-over f (s .number) (stays (s .number)) ws _ (i + 1) _ (cc (to-at f ws i, to-next ws i (search needs) f)) (c .next2 .ensures),
     )
 
 same-length : tie.Need-same-length Inv-loop μ-loop
