@@ -94,18 +94,18 @@ last-writer D k (suc w) = cases (none? (wroteAt D w k))
 module _ (L : Ledger) (f : Fair L) where
   -- VIS is within AR, by commit numbers
   earlier-commit : (i j : ℕ) → j < length (L .past) → i < doneAt L j .seen → i < j
-  earlier-commit i j h v = omega (arith, f .seen j h)
+  earlier-commit i j h v = omega (arith, f .dones j h .saw)
 
   -- DEFINITION 5
   vis-irreflexive : (T : Tx) → In L T → VIS L T T → ⊥
   vis-irreflexive initial h v = v
-  vis-irreflexive (nth j) h v = omega (arith, f .seen j h)
+  vis-irreflexive (nth j) h v = omega (arith, f .dones j h .saw)
 
   vis-transitive : (S T U : Tx) → In L S → In L T → In L U → VIS L S T → VIS L T U → VIS L S U
   vis-transitive S T initial hs ht hu v w = w
   vis-transitive S initial (nth j) hs ht hu v w = absurd v
   vis-transitive initial (nth i) (nth j) hs ht hu v w = tt
-  vis-transitive (nth m) (nth i) (nth j) hs ht hu v w = omega (arith, f .seen i ht)
+  vis-transitive (nth m) (nth i) (nth j) hs ht hu v w = omega (arith, f .dones i ht .saw)
 
   ar-irreflexive : (T : Tx) → In L T → AR L T T → ⊥
   ar-irreflexive initial h v = v
@@ -133,12 +133,12 @@ module _ (L : Ledger) (f : Fair L) where
   int : Int L
   int initial h later earlier k v u e g = no-events later earlier (read k v) e
   int (nth j) h later earlier k v u e g =
-      let base = snapshot L (doneAt L j .seen) in
-      let t = told-at base later earlier k v (subst (λ (es : List Event). Told base es) e (f .told j h)) in
+      let base = snapshot (L .past) (doneAt L j .seen) in
+      let t = told-at base later earlier k v (subst (λ (es : List Event). Told base es) e (f .dones j h .told)) in
       t .0 ∙ sym (last-on base earlier k u (t .1) g)
 
   -- the last writer that a snapshot holds, or the initial transaction
-  latest : (j k v : ℕ) → j < length (L .past) → v ≡ snapshot L (doneAt L j .seen) k
+  latest : (j k v : ℕ) → j < length (L .past) → v ≡ snapshot (L .past) (doneAt L j .seen) k
       → (S : Tx) × Latest L (nth j) k S × Writes L S k v
   latest j k v h e = cases (last-writer (L .past) k (doneAt L j .seen))
       (λ g. (
@@ -148,7 +148,7 @@ module _ (L : Ledger) (f : Fair L) where
       ))
       (λ r. (
         nth (r .nth),
-        record { inside = omega (arith, r .below, f .seen j h); seen = r .below; last = before r },
+        record { inside = omega (arith, r .below, f .dones j h .saw); seen = r .below; last = before r },
         r .wrote ∙ ap some (sym (e ∙ leave-last (doneAt L j .seen) (L .past) k (r .nth) (r .value) (r .below) (r .wrote) (r .last))),
       ))
     where
@@ -167,8 +167,8 @@ module _ (L : Ledger) (f : Fair L) where
   ext : Ext L
   ext initial h k v r = no-events (r .later) (r .earlier) (read k v) (r .event)
   ext (nth j) h k v r =
-      let base = snapshot L (doneAt L j .seen) in
-      let t = told-at base (r .later) (r .earlier) k v (subst (λ (es : List Event). Told base es) (r .event) (f .told j h)) in
+      let base = snapshot (L .past) (doneAt L j .seen) in
+      let t = told-at base (r .later) (r .earlier) k v (subst (λ (es : List Event). Told base es) (r .event) (f .dones j h .told)) in
       latest j k v h (t .0 ∙ rw (untouched (r .earlier) k (r .first)))
 
   prefix : Prefix L
@@ -178,7 +178,7 @@ module _ (L : Ledger) (f : Fair L) where
   prefix (nth m) (nth i) (nth j) hr hs ht a v = omega arith
 
   one-sees : (i j k : ℕ) → i < j → j < length (L .past) → WritesTo L (nth i) k → WritesTo L (nth j) k → i < doneAt L j .seen
-  one-sees i j k h l w w′ = cases (lt? i (doneAt L j .seen)) (λ g. g) (λ g. absurd (f .past i j k h l g w w′))
+  one-sees i j k h l w w′ = cases (lt? i (doneAt L j .seen)) (λ g. g) (λ g. absurd (f .dones j l .apart i k g h w w′))
 
   no-conflict : NoConflict L
   no-conflict initial initial hs ht d k w w′ = absurd (d refl)
@@ -192,8 +192,8 @@ module _ (L : Ledger) (f : Fair L) where
   realtime S initial hs ht = (λ v. v, λ v. v)
   realtime initial (nth j) hs ht = (λ v. tt, λ v. tt)
   realtime (nth i) (nth j) hs ht = (
-    λ v. f .before j ht i v,
-    λ v. cases (lt? i (doneAt L j .seen)) (λ g. g) (λ g. absurd (omega (arith, v, f .after j ht i g hs))),
+    λ v. f .dones j ht .before i v,
+    λ v. cases (lt? i (doneAt L j .seen)) (λ g. g) (λ g. absurd (omega (arith, v, f .dones j ht .after i g hs))),
   )
 
   commit-before : CommitBefore L

@@ -73,9 +73,6 @@ open-by State.Open e = refl
 open-by State.Spoiled e = absurd (false≢true e)
 open-by State.Prepared e = absurd (false≢true e)
 
-false-first : (x y z : Bool) → x ≡ false → (x && y && z) ≡ false
-false-first x y z e = cc
-
 false-second : (x y z : Bool) → y ≡ false → (x && y && z) ≡ false
 false-second true y z e = cc
 false-second false y z e = refl

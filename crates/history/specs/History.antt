@@ -232,7 +232,8 @@ ConflictsExact hs = (before after : List Pair) (p k new n v : ℕ) → hs ≡ be
     → Reaches (ledger before) p k
     → (n ≡ numberOf Answer.Conflict) ↔ Contested (ledger before) p k
 
--- what a board holds for a key: the value in its committed cell with the greatest commit number; if there is none, 0
+-- what a board holds for a key: the value in its committed cell with the greatest commit number that is at most the commit count; if
+-- there is none, 0
 abbrev pub holds : Board → List ℕ → ℕ → ℕ
 holds b ws k = newestSeen k (b .commits) (cellsOf ws) .value
 

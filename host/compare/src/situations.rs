@@ -1,4 +1,5 @@
-//! Document 01's eleven situations, on a store behind the C interface's numbers.
+//! Document 01's eleven situations, on a store behind the C interface's numbers: as the twin lists them, and as the program
+//! `situations` plays them.
 
 use crate::{Difference, Store};
 use twin::board::Call;
@@ -42,4 +43,49 @@ pub fn compare(store: &dyn Store) -> Result<u64, Difference> {
         }
     }
     Ok(calls)
+}
+
+/// What a store gives for the lines of the program `situations`, in the program's words. Each line has a number, then
+/// `board N` (fresh, of N words), `goes on`, a call with what came back, or a cell with its words; the last line counts.
+pub fn replayed(store: &dyn Store, lines: &str) -> String {
+    let (mut record, mut cells) = (vec![0; 50], Vec::new());
+    let mut checks = 0;
+    let mut out = String::new();
+    for line in lines.lines() {
+        let words: Vec<&str> = line.split(' ').collect();
+        let at = |i: usize| words[i].parse::<u32>().unwrap_or_else(|_| panic!("no number in {line}"));
+        let came = match words.as_slice() {
+            [_, "board", _] => {
+                (record, cells) = (vec![0; 50], vec![0; at(2) as usize]);
+                None
+            }
+            [_, "goes", "on"] => None,
+            [_, "cell", _, "->", ..] => {
+                let cell = &cells[4 * at(2) as usize..][..4];
+                Some(format!("{} {} {} {}", cell[0], cell[1], cell[2], cell[3]))
+            }
+            [_, "checks,", "0", "wrong"] => {
+                out += &format!("{checks} checks, 0 wrong\n");
+                continue;
+            }
+            [_, kind, _, rest @ ..] => {
+                let kinds = ["start", "read", "update", "prepare", "commit", "rollback"];
+                let kind = kinds.iter().position(|k| k == kind).unwrap_or_else(|| panic!("no call in {line}"));
+                let given = rest.iter().take_while(|word| **word != "->").count();
+                let number = |i: usize| if i < given { at(3 + i) } else { 0 };
+                let numbers = [kind as u32 + 1, at(2), number(0), number(1)];
+                let (number, value) = store.call(&mut record, &mut cells, numbers);
+                Some(format!("{} {value}", twin::name(number)))
+            }
+            _ => panic!("a line of no kind: {line}"),
+        };
+        let asked = line.split(" -> ").next().expect("a line has a first part");
+        out += asked;
+        if let Some(came) = came {
+            checks += 1;
+            out += &format!(" -> {came}");
+        }
+        out += "\n";
+    }
+    out
 }

@@ -1,7 +1,7 @@
 //! The comparisons of the gate, on two cores in about two minutes. `LANE_ROUNDS=n` multiplies the numbers of cases.
 
 use compare::store::SHORTCUTS;
-use compare::{boards, codecs, exhaustive, rounds, say, situations, streams, Counts, Proved, Store as _, Twin};
+use compare::{boards, codecs, exhaustive, rounds, say, situations, streams, Counts, Proved, Store, Twin};
 
 /// The gate's numbers of cases for one round.
 const BOARDS: u64 = 300_000;
@@ -107,6 +107,27 @@ fn the_eleven_situations() {
     let twin = situations::compare(&Twin).unwrap();
     let proved = situations::compare(&Proved).unwrap();
     assert_eq!(twin, proved);
+    say(&format!("situations: {twin} calls"));
+}
+
+/// The program `situations` has its output stored beside it; the twin and `lane_call` give the same, line by line.
+#[test]
+fn the_stored_output_of_the_program_situations() {
+    let path = std::path::Path::new(env!("CARGO_MANIFEST_DIR")).join("../../crates/situations/stdout");
+    let stored = std::fs::read_to_string(&path).expect("crates/situations/stdout");
+    for number in 1..=11 {
+        assert!(
+            stored.lines().any(|line| line.starts_with(&format!("{number}.1 "))),
+            "situation {number} is not there"
+        );
+    }
+    for store in [&Twin as &dyn Store, &Proved] {
+        for (ours, theirs) in situations::replayed(store, &stored).lines().zip(stored.lines()) {
+            assert_eq!(ours, theirs, "({}, the stored output)", store.name());
+        }
+        assert!(situations::replayed(store, &stored) == stored);
+    }
+    say(&format!("situations, stored output: {}", stored.lines().last().unwrap_or("nothing")));
 }
 
 /// Each of document 01's four shortcuts, planted in a copy of the twin, is caught by each of the comparisons.
