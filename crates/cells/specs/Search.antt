@@ -79,6 +79,7 @@ raised t w n = cond (ltb w allTops && ltb (getD t w 0) n) (set t w n) t
 abbrev pub raisedBy : (Cell → Bool) → List ℕ → Cell → List ℕ
 raisedBy p t c = cond (p c) (raised t (c .word) (c .commit)) t
 
+-- the table after the cells of a list
 unfoldable pub topsFrom : (Cell → Bool) → List ℕ → List Cell → List ℕ
 topsFrom p t [] = t
 topsFrom p t (c ∷ cs) = topsFrom p (raisedBy p t c) cs
@@ -87,10 +88,11 @@ topsFrom p t (c ∷ cs) = topsFrom p (raisedBy p t c) cs
 unfoldable pub topsOf : (Cell → Bool) → List Cell → List ℕ
 topsOf p cs = topsFrom p (replicate allTops 0) cs
 
--- every cell, and those with a commit number that is at most the view
+-- every cell
 abbrev pub anyCell : Cell → Bool
 anyCell c = true
 
+-- a cell with a commit number that is at most the view
 abbrev pub upTo : ℕ → Cell → Bool
 upTo view c = leb (c .commit) view
 

@@ -9,7 +9,7 @@ ghost use lib.ListN.{length, drop};
 ghost use Rattle.cells.specs.Cells.{cellsOf};
 ghost use Rattle.steps.specs.Record.{freshBoard, idlePlace, isIdle, isOpen, isSpoiled, isPrepared};
 ghost use Rattle.steps.specs.Shape.{held, hasNumber, distinct, counted, each, inShape};
-ghost use Rattle.steps.specs.Check.{isStart, needsOpen, needsUnspoiled, keyOf, placeCheck, checkOf};
+ghost use Rattle.steps.specs.Check.{isStart, needsOpen, needsUnspoiled, placeCheck, checkOf};
 ghost use Rattle.steps.specs.Search.{OldestAt};
 ghost use Rattle.steps.specs.Spent.{reusable, heldBack};
 ghost use Rattle.steps.specs.Step.{outcome, step, inState};
@@ -395,7 +395,7 @@ impl Place {
         if needs_open(call) & self.is_prepared() {
             return Answer::Held;
         }
-        if Board::KEYS <= key_of(call) {
+        if Board::KEYS <= records::key_of(call) {
             return Answer::Key;
         }
         Answer::Ok(0)
@@ -551,23 +551,5 @@ fn needs_unspoiled(call: Call) -> bool
         Call::Prepare { place: _ } => true,
         Call::Commit { place: _ } => true,
         Call::Rollback { place: _ } => false,
-    }
-}
-
-// The key that a call names, 0 where it names none.
-fn key_of(call: Call) -> u32
-    ensures { λ r. ⌜ r ≡ keyOf call ⌝ }
-{
-    match call {
-        Call::Start { place: _ } => 0,
-        Call::Read { place: _, key } => key,
-        Call::Update {
-            place: _,
-            key,
-            value: _,
-        } => key,
-        Call::Prepare { place: _ } => 0,
-        Call::Commit { place: _ } => 0,
-        Call::Rollback { place: _ } => 0,
     }
 }

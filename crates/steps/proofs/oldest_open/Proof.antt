@@ -53,7 +53,9 @@ loop-again c =
     let q = getD ps (l .loop .r) idlePlace in (
       search needs,
       search needs,
-      below-more (λ (k : ℕ). Older p (getD ps k idlePlace)) (l .loop .j) (λ k h. take-new p q e f (c .if1 .taken) (getD ps k idlePlace) (l .loop .inv .2 k h)) (take-self p),
+      below-more (λ (k : ℕ). Older p (getD ps k idlePlace)) (l .loop .j)
+          (λ k h. take-new p q e f (c .if1 .taken) (getD ps k idlePlace) (l .loop .inv .2 k h))
+          (take-self p),
     )
 
 loop-less-2 : tie.Need-loop-less-2 Inv-loop μ-loop

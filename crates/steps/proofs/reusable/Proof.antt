@@ -46,24 +46,27 @@ long c = search needs
 abbrev Looked : Type 0
 Looked = tie.After-cell-at Inv-places μ-places Inv-cells μ-cells
 
+abbrev begun : Looked → tie.Start Inv-places μ-places Inv-cells μ-cells
+begun c = c .before .before .before .before .before .before .before .before .before .before
+
 here : (c : Looked)
-    → (let a = c .before .before .before .before .before .before .before .before .before .before .args in
+    → (let a = begun c .args in
     let cs = cellsOf (a .cells .now) in
     free (a .t2) cs (c .cell-at .result) ≡ true → Found.At (c .before .before .cells .i) ≡ reusable (a .t2) cs)
 here c e =
-    let a = c .before .before .before .before .before .before .before .before .before .before .args in
+    let a = begun c .args in
     let l = c .before .before .cells in
     let f = free (a .t2) (cellsOf (a .cells .now)) in
     sym (l .inv .1 ∙ lowest-here (a .cells .now) (l .i) (search needs) f (sym (ap f (c .cell-at .ensures)) ∙ e))
 
 next : (c : Looked)
-    → (let a = c .before .before .before .before .before .before .before .before .before .before .args in
+    → (let a = begun c .args in
     let cs = cellsOf (a .cells .now) in
     let i = c .before .before .cells .i in
     free (a .t2) cs (c .cell-at .result) ≡ false
     → reusable (a .t2) cs ≡ lowestFrom (i + 1) (free (a .t2) cs) (drop (i + 1) cs))
 next c e =
-    let a = c .before .before .before .before .before .before .before .before .before .before .args in
+    let a = begun c .args in
     let l = c .before .before .cells in
     let f = free (a .t2) (cellsOf (a .cells .now)) in
     l .inv .1 ∙ lowest-next (a .cells .now) (l .i) (search needs) f (sym (ap f (c .cell-at .ensures)) ∙ e)
@@ -72,17 +75,23 @@ next c e =
 abbrev Old : Type 0
 Old = tie.Else3 Inv-places μ-places Inv-cells μ-cells
 
-filled : (c : Old) → empty (c .before .before .before .before .before .before .before .cell-at .result) ≡ false
+abbrev read-at : Old → Looked
+read-at c = c .before .before .before .before .before .before .before
+
+abbrev old-at : tie.At-places Inv-places μ-places Inv-cells μ-cells → Old
+old-at m = m .before .before .before .before .before .before .before .before
+
+filled : (c : Old) → empty (read-at c .cell-at .result) ≡ false
 filled c = sym (c .before .before .before .before .before .before .«empty» .ensures) ∙ c .before .before .before .before .before .if1 .left
 
 kept-or-free : (c : Old) (h : Bool)
-    → (let k = c .before .before .before .before .before .before .before in
-    let a = k .before .before .before .before .before .before .before .before .before .before .args in
+    → (let k = read-at c in
+    let a = begun k .args in
     let cs = cellsOf (a .cells .now) in
     hasPlace (keepsAt cs (k .cell-at .result)) (a .t2) ≡ h → free (a .t2) cs (k .cell-at .result) ≡ not h)
 kept-or-free c h e =
-    let k = c .before .before .before .before .before .before .before in
-    let a = k .before .before .before .before .before .before .before .before .before .before .args in
+    let k = read-at c in
+    let a = begun k .args in
     let cs = cellsOf (a .cells .now) in
     let x = k .cell-at .result in
     let told = ap (λ (t : Tops). outdatedBy (t .all) cs x) (k .before .before .before .before .before .tops-of .ensures) in
@@ -122,7 +131,7 @@ empty-requires c κs = search needs
 returns : tie.Need-returns Inv-places μ-places Inv-cells μ-cells
 returns c =
     let k = c .before .before in
-    let a = k .before .before .before .before .before .before .before .before .before .before .args in
+    let a = begun k .args in
     let e = sym (c .before .«empty» .ensures) ∙ c .if1 .taken in
     here k (free-is (a .t2) (cellsOf (a .cells .now)) (k .cell-at .result) e refl refl refl)
 
@@ -135,7 +144,7 @@ cells-less c = search needs
 cells-again : tie.Need-cells-again Inv-places μ-places Inv-cells μ-cells
 cells-again c =
     let k = c .before .before .before .before in
-    let a = k .before .before .before .before .before .before .before .before .before .before .args in
+    let a = begun k .args in
     let e = sym (c .before .before .before .«empty» .ensures) ∙ c .before .before .if1 .left in
     let f = sym (c .before .committed .ensures) ∙ not-true _ (c .if2 .taken) in
     (search needs, next k (free-is (a .t2) (cellsOf (a .cells .now)) (k .cell-at .result) e f refl refl))
@@ -149,7 +158,7 @@ cells-less-2 c = search needs
 cells-again-2 : tie.Need-cells-again-2 Inv-places μ-places Inv-cells μ-cells
 cells-again-2 c =
     let k = c .before .before .before .before .before .before .before in
-    let a = k .before .before .before .before .before .before .before .before .before .before .args in
+    let a = begun k .args in
     let cs = cellsOf (a .cells .now) in
     let x = k .cell-at .result in
     let e = sym (c .before .before .before .before .before .before .«empty» .ensures) ∙ c .before .before .before .before .before .if1 .left in
@@ -163,16 +172,17 @@ surpassed-requires c κs = search needs
 
 returns-2 : tie.Need-returns-2 Inv-places μ-places Inv-cells μ-cells
 returns-2 c =
-    let k = c .before .before .before .before .before .before .before .before .before .before in
-    let a = k .before .before .before .before .before .before .before .before .before .before .args in
+    let old = c .before .before .before in
+    let k = read-at old in
+    let a = begun k .args in
     let cs = cellsOf (a .cells .now) in
     let x = k .cell-at .result in
     let o = k .before .before .before .before .before .before .before .oldest-open in
-    let h = long (k .before .before .before .before .before .before .before .before .before .before) in
+    let h = long (begun k) in
     let told = ap (λ (t : Tops). surpassedIn (t .seen) x) (k .before .before .before .before .before .tops-of .ensures) in
     let e = sym told ∙ sym (c .before .surpassed .ensures) ∙ c .if4 .taken in
-    let past = surpassed-is cs x (filled (c .before .before .before)) (getD (a .t2) (o .result) idlePlace .view) e in
-    here k (kept-or-free (c .before .before .before) false (none-keep (a .t2) (o .result) (o .ensures) h cs x past))
+    let past = surpassed-is cs x (filled old) (getD (a .t2) (o .result) idlePlace .view) e in
+    here k (kept-or-free old false (none-keep (a .t2) (o .result) (o .ensures) h cs x past))
 
 is-open-requires : tie.Need-is-open-requires Inv-places μ-places Inv-cells μ-cells
 is-open-requires c κs = search needs
@@ -185,18 +195,22 @@ cells-less-3 c = search needs
 
 cells-again-3 : tie.Need-cells-again-3 Inv-places μ-places Inv-cells μ-cells
 cells-again-3 c =
-    let k = c .before .before .before .before .before .before .before .before .before .before .before .before .before .before in
-    let a = k .before .before .before .before .before .before .before .before .before .before .args in
+    let old = c .before .before .before .before .before .before .before in
+    let k = read-at old in
+    let a = begun k .args in
     let cs = cellsOf (a .cells .now) in
     let x = k .cell-at .result in
     let o = k .before .before .before .before .before .before .before .oldest-open in
-    let h = long (k .before .before .before .before .before .before .before .before .before .before) in
+    let h = long (begun k) in
     let p = getD (a .t2) (o .result) idlePlace in
     let told = ap (λ (t : Tops). heldIn (t .seen) x (p .view)) (k .before .before .before .before .before .tops-of .ensures) in
-    let e = sym told ∙ sym (c .before .held-by .ensures) ∙ and-right (c .before .before .before .is-open .result) (c .before .held-by .result) (c .if5 .taken) in
-    let is-open = sym (c .before .before .before .is-open .ensures) ∙ and-left (c .before .before .before .is-open .result) (c .before .held-by .result) (c .if5 .taken) in
-    let kept = some-keeps (a .t2) (o .result) (o .ensures) h cs x is-open (held-is cs x (filled (c .before .before .before .before .before .before .before)) (p .view) e) in
-    (search needs, next k (kept-or-free (c .before .before .before .before .before .before .before) true kept))
+    let u = c .before .before .before .is-open in
+    let v = c .before .held-by in
+    let e = sym told ∙ sym (v .ensures) ∙ and-right (u .result) (v .result) (c .if5 .taken) in
+    let is-open = sym (u .ensures) ∙ and-left (u .result) (v .result) (c .if5 .taken) in
+    let held = held-is cs x (filled old) (p .view) e in
+    let kept = some-keeps (a .t2) (o .result) (o .ensures) h cs x is-open held in
+    (search needs, next k (kept-or-free old true kept))
 
 places-holds : tie.Need-places-holds Inv-places μ-places Inv-cells μ-cells
 places-holds c = (search needs, refl)
@@ -219,9 +233,9 @@ places-less c = search needs
 places-again : tie.Need-places-again Inv-places μ-places Inv-cells μ-cells
 places-again c =
     let m = c .before .before .before .before in
-    let k = m .before .before .before .before .before .before .before .before .before .before .before .before .before .before .before in
-    let a = k .before .before .before .before .before .before .before .before .before .before .args in
-    let h = long (k .before .before .before .before .before .before .before .before .before .before) in
+    let k = read-at (old-at m) in
+    let a = begun k .args in
+    let h = long (begun k) in
     let q = keepsAt (cellsOf (a .cells .now)) (k .cell-at .result) in
     let e = sym (c .before .is-open2 .ensures) ∙ not-true _ (c .if6 .taken) in
     (search needs, m .places .inv .1 ∙ place-turn q (a .t2) (m .places .j) (omega arith) (and-is e refl))
@@ -235,14 +249,14 @@ cells-less-4 c = search needs
 cells-again-4 : tie.Need-cells-again-4 Inv-places μ-places Inv-cells μ-cells
 cells-again-4 c =
     let m = c .before .before .before .before .before .before in
-    let k = m .before .before .before .before .before .before .before .before .before .before .before .before .before .before .before in
-    let a = k .before .before .before .before .before .before .before .before .before .before .args in
-    let h = long (k .before .before .before .before .before .before .before .before .before .before) in
+    let k = read-at (old-at m) in
+    let a = begun k .args in
+    let h = long (begun k) in
     let q = keepsAt (cellsOf (a .cells .now)) (k .cell-at .result) in
     let is-open = sym (c .before .before .before .is-open2 .ensures) ∙ not-false _ (c .before .before .if6 .left) in
     let e = and-is is-open (sym (c .before .kept .ensures) ∙ c .if7 .taken) in
     let f = m .places .inv .1 ∙ place-turn q (a .t2) (m .places .j) (omega arith) e in
-    (search needs, next k (kept-or-free (m .before .before .before .before .before .before .before .before) true f))
+    (search needs, next k (kept-or-free (old-at m) true f))
 
 places-less-2 : tie.Need-places-less-2 Inv-places μ-places Inv-cells μ-cells
 places-less-2 c = search needs
@@ -250,9 +264,9 @@ places-less-2 c = search needs
 places-again-2 : tie.Need-places-again-2 Inv-places μ-places Inv-cells μ-cells
 places-again-2 c =
     let m = c .before .before .before .before .before .before in
-    let k = m .before .before .before .before .before .before .before .before .before .before .before .before .before .before .before in
-    let a = k .before .before .before .before .before .before .before .before .before .before .args in
-    let h = long (k .before .before .before .before .before .before .before .before .before .before) in
+    let k = read-at (old-at m) in
+    let a = begun k .args in
+    let h = long (begun k) in
     let q = keepsAt (cellsOf (a .cells .now)) (k .cell-at .result) in
     let is-open = sym (c .before .before .before .is-open2 .ensures) ∙ not-false _ (c .before .before .if6 .left) in
     let e = and-is is-open (sym (c .before .kept .ensures) ∙ c .if7 .left) in
@@ -261,11 +275,12 @@ places-again-2 c =
 returns-3 : tie.Need-returns-3 Inv-places μ-places Inv-cells μ-cells
 returns-3 c =
     let m = c .before in
-    let k = m .before .before .before .before .before .before .before .before .before .before .before .before .before .before .before in
-    let a = k .before .before .before .before .before .before .before .before .before .before .args in
-    let h = long (k .before .before .before .before .before .before .before .before .before .before) in
+    let k = read-at (old-at m) in
+    let a = begun k .args in
+    let h = long (begun k) in
     let q = keepsAt (cellsOf (a .cells .now)) (k .cell-at .result) in
-    here k (kept-or-free (m .before .before .before .before .before .before .before .before) false (m .places .inv .1 ∙ place-end q (a .t2) (m .places .j) (omega arith)))
+    let none = m .places .inv .1 ∙ place-end q (a .t2) (m .places .j) (omega arith) in
+    here k (kept-or-free (old-at m) false none)
 
 returns-4 : tie.Need-returns-4 Inv-places μ-places Inv-cells μ-cells
 returns-4 c =
