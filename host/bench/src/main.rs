@@ -84,13 +84,22 @@ fn used(who: i32) -> Duration {
 
 /// The first peer's sum over a short piece must be every peer's; then all are measured in turn.
 fn race(what: &str, runners: &mut [Runner]) {
-    eprintln!("measuring {what} ..");
+    agree(what, runners);
+    measure(what, runners, &mut []);
+}
+
+fn agree(what: &str, runners: &mut [Runner]) {
     let sums: Vec<u64> = runners.iter_mut().map(|r| (r.run)(2_000)).collect();
     for (runner, sum) in runners.iter().zip(&sums) {
         assert_eq!(*sum, sums[0], "{what}: {} reads or refuses something else than {}", runner.name, runners[0].name);
     }
+}
+
+/// Measures these and those in turn: what a ratio is taken of must be measured side by side.
+fn measure(what: &str, these: &mut [Runner], those: &mut [Runner]) {
+    eprintln!("measuring {what} ..");
     for _ in 0..PASSES {
-        runners.iter_mut().for_each(Runner::measure);
+        these.iter_mut().chain(those.iter_mut()).for_each(Runner::measure);
     }
 }
 
@@ -275,15 +284,13 @@ fn main() {
     assert!(words.chunks(4).all(|cell| cell[0] != 0), "every cell is filled");
     let again = words.clone();
     let mut w3 = [runner("lane", a, Reads(Rng::new())), runner("twin", b, Reads(Rng::new()))];
-    race("W3", &mut w3);
+    agree("W3", &mut w3);
     let passes = |words: Vec<u32>, pass: fn(&[u32]) -> u32| {
         move |n| (0..n).fold(0, |sum: u64, _| sum.wrapping_add(u64::from(pass(black_box(&words)))))
     };
     let mut plain =
         [Runner::new("pass", passes(words, pass)), Runner::new("search", passes(again, pass_that_could_stop))];
-    for _ in 0..PASSES {
-        plain.iter_mut().for_each(Runner::measure);
-    }
+    measure("W3 and the plain pass", &mut w3, &mut plain);
 
     eprintln!("measuring the desk program ..");
     let through_desk = |input: &[u8]| desk(input).unwrap_or_else(|e| panic!("{e}"));
