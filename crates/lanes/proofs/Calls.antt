@@ -9,7 +9,7 @@ use mathlib.Core.List.{List, [], _∷_, _++_, append-assoc}
 use Prim.Native.Nat.{ℕ, zero, suc, _+_, _*_, _≤_, _<_, zero-le, suc-le-suc}
 use native.Mathlib.Nat.{zero-add, suc-add, not-suc-le-zero, le-of-suc-le-suc}
 use native.Mathlib.Omega.{arith}
-use lib.ListN.{length, take, drop, length-drop}
+use lib.ListN.{length, drop, length-drop}
 use lib.Seq.{take-append-le, drop-append-le, drop-drop}
 use Rattle.records.specs.declared.Call.{Call}
 use Rattle.records.specs.declared.CallRead.{CallRead}
@@ -17,7 +17,7 @@ use Rattle.records.specs.declared.Reply.{Reply}
 use Rattle.records.specs.Format.{callBytes, answerRecord, callAt}
 use Rattle.steps.specs.declared.Board.{Board}
 use Rattle.steps.specs.Step.{step}
-use Rattle.lanes.specs.Serve.{readThen, callsIn, Run, replyTo, runOf, recordsOf}
+use Rattle.lanes.specs.Serve.{readThen, callsIn, replyTo, runOf, recordsOf}
 
 -- READING
 

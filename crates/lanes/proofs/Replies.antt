@@ -1,13 +1,13 @@
 -- Writing the answer to a call that was read never fails: a call from bytes has a place byte, and an answer's value is a u32.
 -- Assumes nothing.
-use mathlib.Core.Path.{_≡_, refl, sym, ap, _∙_, subst}
-use mathlib.Core.Bool.{Bool, true, false, cond, _&&_, false≢true}
-use mathlib.Core.List.{List, [], _∷_, _++_}
+use mathlib.Core.Path.{_≡_, refl, sym, ap, _∙_}
+use mathlib.Core.Bool.{Bool, true, false, cond}
+use mathlib.Core.List.{List}
 use Prim.Native.Nat.{ℕ, zero, suc, _+_, _%_, _≤_, _<_, _^_}
 use native.Mathlib.Omega.{arith}
-use lib.Dec.{eqb, ltb, leb, lit<}
+use lib.Dec.{leb, lit<}
 use lib.ListN.{length, getD, take, drop}
-use borrow.Author.Tests.{eqb-true, lt-ltb, le-leb}
+use borrow.Author.Tests.{lt-ltb, le-leb}
 use Rattle.records.specs.declared.Answer.{Answer}
 use Rattle.records.specs.declared.Call.{Call}
 use Rattle.records.specs.declared.CallRead.{CallRead}
