@@ -3,4 +3,7 @@ pub mod Laws
 pub mod Words
 pub mod Writes
 pub mod Scan
+pub mod Skip
+pub mod Looks
+pub mod Table
 pub mod Meaning

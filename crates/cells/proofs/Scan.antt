@@ -23,7 +23,7 @@ module _ (ws : List ℕ) (i : ℕ) (h : i < length ws / 4) where
   in-cells : i < length (cellsOf ws)
   in-cells = rw length-cells h
 
-  cells-next : drop i (cellsOf ws) ≡ getD (cellsOf ws) i noCell ∷ drop (i + 1) (cellsOf ws)
+  pub cells-next : drop i (cellsOf ws) ≡ getD (cellsOf ws) i noCell ∷ drop (i + 1) (cellsOf ws)
   cells-next = drop-next (cellsOf ws) i noCell in-cells
 
   module _ (p : Cell → Bool) where
@@ -82,7 +82,7 @@ module _ (ws : List ℕ) (i : ℕ) (h : length ws / 4 ≤ i) where
   past-cells : length (cellsOf ws) ≤ i
   past-cells = rw length-cells h
 
-  cells-end : drop i (cellsOf ws) ≡ []
+  pub cells-end : drop i (cellsOf ws) ≡ []
   cells-end = drop-of-length-le (cellsOf ws) past-cells
 
   pub lowest-end : (p : Cell → Bool) → lowestFrom i p (drop i (cellsOf ws)) ≡ Nothing

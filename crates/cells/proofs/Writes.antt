@@ -18,10 +18,10 @@ use Rattle.cells.specs.Rules.{pickCell, stamped, wiped}
 use Rattle.cells.proofs.Words.{length-same, cell-write, set4}
 
 -- what a choice by a test comes to
-pick-true : {t : Bool} (a b : Cell) → t ≡ true → pickCell t a b ≡ a
+pub pick-true : {t : Bool} (a b : Cell) → t ≡ true → pickCell t a b ≡ a
 pick-true a b e = ap (λ (u : Bool). pickCell u a b) e
 
-pick-false : {t : Bool} (a b : Cell) → t ≡ false → pickCell t a b ≡ b
+pub pick-false : {t : Bool} (a b : Cell) → t ≡ false → pickCell t a b ≡ b
 pick-false a b e = ap (λ (u : Bool). pickCell u a b) e
 
 module _ (number : ℕ) (c : Cell) where

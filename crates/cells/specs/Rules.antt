@@ -7,6 +7,7 @@ use lib.Dec.{eqb, ltb, leb}
 use Rattle.cells.specs.declared.Cell.{Cell}
 use Rattle.cells.specs.declared.Found.{Found}
 use Rattle.cells.specs.declared.Found.the-variants.{At, Nothing}
+use Rattle.cells.specs.declared.Looked.{Looked}
 use Rattle.cells.specs.Cells.{noCell, empty, own, foreign, committed, ofKey, seenBy}
 
 -- the first where the test passes, otherwise the second
@@ -69,6 +70,20 @@ blocks key number view c = ofKey key c && clashes number view c
 -- the key has a foreign cell or a committed cell with commit number above V
 unfoldable pub conflict : ℕ → ℕ → ℕ → List Cell → Bool
 conflict key number view cs = hasCell (blocks key number view) cs
+
+-- the key has a foreign cell
+unfoldable pub hasForeign : ℕ → ℕ → List Cell → Bool
+hasForeign key number cs = hasCell (λ c. ofKey key c && foreign number c) cs
+
+-- what a read and an update ask of the key's cells
+abbrev pub lookOf : ℕ → ℕ → ℕ → List Cell → Looked
+lookOf key number view cs =
+    record {
+      own = ownAt key number cs;
+      foreign = hasForeign key number cs;
+      conflict = conflict key number view cs;
+      newest = newestSeen key view cs;
+    }
 
 -- the cell takes the value
 abbrev pub valued : ℕ → Cell → Cell

@@ -194,8 +194,8 @@ fn kind_of(c: Call) -> u8
     }
 }
 
-// The key of a call in its record: zero except in kinds 2 and 3.
-fn key_of(c: Call) -> u32
+// The key that a call names, in its record too: zero except in kinds 2 and 3.
+pub fn key_of(c: Call) -> u32
     ensures { λ r. ⌜ r ≡ keyOf c ⌝ }
 {
     match c {

@@ -15,7 +15,8 @@ use Rattle.steps.specs.declared.Board.{Board}
 use Rattle.steps.specs.declared.Answered.{Answered}
 use Rattle.steps.specs.Record.{allPlaces, allKeys, mostStarts}
 use Rattle.steps.specs.Check.{givenBoard, givenPlace, givenBusy, givenIdle, givenWorn, givenSpoiled, givenHeld, givenKey}
-use Rattle.steps.specs.Check.{keyOf, placeCheck, checkOf}
+use Rattle.steps.specs.Check.{placeCheck, checkOf}
+use Rattle.records.specs.Format.{keyOf}
 use Rattle.steps.specs.Step.{answered, outcome, done, step}
 use Rattle.steps.specs.Table.{stateAt}
 use Rattle.steps.proofs.Tests.{by-test}

@@ -9,4 +9,5 @@ pub mod Situations
 pub mod Unique
 pub mod Checks
 pub mod Spent
+pub mod Quick
 pub mod Ends

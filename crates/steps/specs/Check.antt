@@ -6,6 +6,7 @@ use lib.Dec.{leb}
 use Rattle.records.specs.declared.Call.{Call}
 use Rattle.records.specs.declared.Answer.{Answer}
 use Rattle.records.specs.Answers.{placeOf}
+use Rattle.records.specs.Format.{keyOf}
 use Rattle.steps.specs.declared.State.{State}
 use Rattle.steps.specs.declared.Board.{Board}
 use Rattle.steps.specs.Record.{allPlaces, allKeys, mostStarts, isIdle, isSpoiled, isPrepared, placeAt}
@@ -37,15 +38,6 @@ needsUnspoiled (Call.Update place key value) = true
 needsUnspoiled (Call.Prepare place) = true
 needsUnspoiled (Call.Commit place) = true
 needsUnspoiled (Call.Rollback place) = false
-
--- the key that a call names, 0 where it names none
-abbrev pub keyOf : Call → ℕ
-keyOf (Call.Start place) = 0
-keyOf (Call.Read place key) = key
-keyOf (Call.Update place key value) = key
-keyOf (Call.Prepare place) = 0
-keyOf (Call.Commit place) = 0
-keyOf (Call.Rollback place) = 0
 
 -- 1 BOARD: not in shape
 abbrev pub givenBoard : Board → ℕ → Bool

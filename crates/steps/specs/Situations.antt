@@ -20,6 +20,7 @@ pub record Turn : Type 0 where
   pub call : Call
   pub answer : Answer
 
+-- the call is to be answered so
 abbrev pub _gives_ : Call → Answer → Turn
 _gives_ c a = record { call = c; answer = a }
 
@@ -34,9 +35,11 @@ pub record Situation : Type 0 where
   pub turns : List Turn
   pub used : List Used
 
+-- whether two cells have the same four words
 abbrev pub sameCell : Cell → Cell → Bool
 sameCell c d = eqb (c .word) (d .word) && eqb (c .value) (d .value) && eqb (c .number) (d .number) && eqb (c .commit) (d .commit)
 
+-- whether the cells used hold what they are to hold
 abbrev pub allUsed : List Cell → List Used → Bool
 allUsed cs [] = true
 allUsed cs (u ∷ us) = sameCell (getD cs (u .at) noCell) (u .cell) && allUsed cs us
@@ -52,6 +55,7 @@ runs b ws (t ∷ ts) us =
 abbrev pub holds : Situation → Bool
 holds s = runs freshBoard (wordsOf (replicate (s .cells) noCell)) (s .turns) (s .used)
 
+-- whether each situation of a list holds
 abbrev pub allHold : List Situation → Bool
 allHold [] = true
 allHold (s ∷ ss) = holds s && allHold ss
@@ -77,6 +81,7 @@ secondRelease =
     ∷ Call.Update 1 7 0 gives Answer.Conflict
     ∷ []
 
+-- 2. This is the second release.
 abbrev pub case2 : Situation
 case2 = onFresh 4 secondRelease
 

@@ -4,11 +4,13 @@ use cells::Found;
 use records::Answer;
 use records::Call;
 ghost use mathlib.Core.Path.{_≡_};
+ghost use mathlib.Core.Bool.{_&&_};
 ghost use lib.ListN.{length, drop};
 ghost use Rattle.cells.specs.Cells.{cellsOf};
 ghost use Rattle.steps.specs.Record.{freshBoard, idlePlace, isIdle, isOpen, isSpoiled, isPrepared};
 ghost use Rattle.steps.specs.Shape.{held, hasNumber, distinct, counted, each, inShape};
-ghost use Rattle.steps.specs.Check.{isStart, needsOpen, needsUnspoiled, keyOf, placeCheck, checkOf};
+ghost use Rattle.steps.specs.Check.{isStart, needsOpen, needsUnspoiled, placeCheck, checkOf};
+ghost use Rattle.steps.specs.Search.{OldestAt};
 ghost use Rattle.steps.specs.Spent.{reusable, heldBack};
 ghost use Rattle.steps.specs.Step.{outcome, step, inState};
 
@@ -94,16 +96,17 @@ impl Board {
         }
         let at = place as usize;
         let p = self.places[at];
-        let mine = cells::own_at(cells, key, p.number);
+        let look = cells::look(cells, key, p.number, p.view);
+        let mine = look.own;
         if let Found::At(i) = mine {
             let c = cells::cell_at(cells, i);
             return self.with(Answer::Ok(c.value));
         }
         let places = self.places;
-        if held_back(cells, places, key, p.number) {
+        if held_back_if(look.foreign, cells, places, key, p.number) {
             return self.with(Answer::Prepared);
         }
-        let c = cells::newest_seen(cells, key, p.view);
+        let c = look.newest;
         self.with(Answer::Ok(c.value))
     }
 
@@ -117,13 +120,14 @@ impl Board {
         }
         let at = place as usize;
         let p = self.places[at];
-        let mine = cells::own_at(cells, key, p.number);
+        let asked = cells::look(cells, key, p.number, p.view);
+        let mine = asked.own;
         if let Found::At(i) = mine {
             let c = cells::cell_at(cells, i);
             cells::put_cell(cells, i, c.valued(value));
             return self.with(Answer::Ok(0));
         }
-        if cells::conflicts(cells, key, p.number, p.view) {
+        if asked.conflict {
             self.places[at] = p.in_state(State::Spoiled);
             return self.with(Answer::Conflict);
         }
@@ -391,7 +395,7 @@ impl Place {
         if needs_open(call) & self.is_prepared() {
             return Answer::Held;
         }
-        if Board::KEYS <= key_of(call) {
+        if Board::KEYS <= records::key_of(call) {
             return Answer::Key;
         }
         Answer::Ok(0)
@@ -403,6 +407,10 @@ pub fn reusable(cells: &[u32], places: [Place; Board::PLACES]) -> Found
     ensures { λ r. ⌜ r ≡ reusable places (cellsOf (now (cells .entry))) ⌝ }
 {
     let n = cells::count(cells);
+    let oldest = places[oldest_open(places)];
+    let tops = cells::tops_of(cells, oldest.view);
+    let all = tops.all;
+    let seen = tops.seen;
     let mut i = 0;
     'cells: while i < n {
         let at = i;
@@ -414,7 +422,14 @@ pub fn reusable(cells: &[u32], places: [Place; Board::PLACES]) -> Found
         if !c.committed() {
             continue 'cells;
         }
-        if !cells::outdated(cells, c) {
+        if !cells::outdated_by(&all, cells, c) {
+            continue 'cells;
+        }
+        // every open view sees what the oldest sees, so the tables settle most cells
+        if cells::surpassed(&seen, c) {
+            return Found::At(at);
+        }
+        if oldest.is_open() & cells::held_by(&seen, c, oldest.view) {
             continue 'cells;
         }
         let mut j = 0;
@@ -431,6 +446,40 @@ pub fn reusable(cells: &[u32], places: [Place; Board::PLACES]) -> Found
         return Found::At(at);
     }
     Found::Nothing
+}
+
+// The same where a foreign cell is known to be there, and no where none is.
+fn held_back_if(
+    foreign: bool,
+    cells: &[u32],
+    places: [Place; Board::PLACES],
+    key: u32,
+    number: u32,
+) -> bool
+    ensures { λ r. ⌜ r ≡ (foreign && heldBack key number places (cellsOf (now (cells .entry)))) ⌝ }
+{
+    if foreign {
+        return held_back(cells, places, key, number);
+    }
+    false
+}
+
+// An open place with the least view; any place where none is open.
+fn oldest_open(places: [Place; Board::PLACES]) -> usize
+    ensures { λ r. ⌜ OldestAt places r ⌝ }
+{
+    let mut r = 0;
+    let mut j = 0;
+    while j < Board::PLACES {
+        let p = places[j];
+        let q = places[r];
+        let at = j;
+        j += 1;
+        if p.is_open() & (!q.is_open() | (p.view < q.view)) {
+            r = at;
+        }
+    }
+    r
 }
 
 // Whether a foreign cell of the key has the number of a transaction at a prepared place.
@@ -502,23 +551,5 @@ fn needs_unspoiled(call: Call) -> bool
         Call::Prepare { place: _ } => true,
         Call::Commit { place: _ } => true,
         Call::Rollback { place: _ } => false,
-    }
-}
-
-// The key that a call names, 0 where it names none.
-fn key_of(call: Call) -> u32
-    ensures { λ r. ⌜ r ≡ keyOf call ⌝ }
-{
-    match call {
-        Call::Start { place: _ } => 0,
-        Call::Read { place: _, key } => key,
-        Call::Update {
-            place: _,
-            key,
-            value: _,
-        } => key,
-        Call::Prepare { place: _ } => 0,
-        Call::Commit { place: _ } => 0,
-        Call::Rollback { place: _ } => 0,
     }
 }

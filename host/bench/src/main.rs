@@ -20,6 +20,10 @@ mod work;
 const PASSES: usize = 25;
 const LONG: Duration = Duration::from_millis(60);
 
+/// WiredTiger with its isolation named at each start, as in its own examples, and with it named once for a session.
+const WIRED: &str = "WiredTiger";
+const WIRED_ONCE: &str = "WiredTiger, named once";
+
 /// A peer at work, with the best rate measured so far.
 struct Runner {
     name: &'static str,
@@ -97,7 +101,9 @@ fn runner(name: &'static str, mut peer: impl Peer + 'static, mut work: impl Work
 /// The peers of W1 and W2, each with every key written before.
 fn written(work: impl Fn() -> Box<dyn Work>) -> Vec<Runner> {
     let here: [(&'static str, Box<dyn Peer>); 2] = [("lane", Box::new(proved())), ("twin", Box::new(twin()))];
-    let peers = here.into_iter().chain(wired().map(|peer| ("WiredTiger", peer)));
+    let wired = [(WIRED, wired(true)), (WIRED_ONCE, wired(false))];
+    let wired = wired.into_iter().filter_map(|(name, peer)| peer.map(|peer| (name, peer)));
+    let peers = here.into_iter().chain(wired);
     let ready = |(name, mut peer): (&'static str, Box<dyn Peer>)| {
         work::write_every_key(&mut *peer);
         let mut work = work();
@@ -108,8 +114,8 @@ fn written(work: impl Fn() -> Box<dyn Work>) -> Vec<Runner> {
 
 /// WiredTiger, where the bench was built with it.
 #[cfg(wiredtiger)]
-fn wired() -> Option<Box<dyn Peer>> {
-    let wired = peers::wired::Wired::open();
+fn wired(at_each_start: bool) -> Option<Box<dyn Peer>> {
+    let wired = peers::wired::Wired::open(at_each_start);
     if wired.is_none() {
         eprintln!("WiredTiger is installed but did not open");
     }
@@ -117,7 +123,7 @@ fn wired() -> Option<Box<dyn Peer>> {
 }
 
 #[cfg(not(wiredtiger))]
-fn wired() -> Option<Box<dyn Peer>> {
+fn wired(_: bool) -> Option<Box<dyn Peer>> {
     None
 }
 
@@ -213,36 +219,36 @@ fn thousands(n: f64) -> String {
     out
 }
 
+/// A line of the table: lane, twin, and WiredTiger in its two ways.
 struct Row {
     what: &'static str,
     unit: &'static str,
-    rates: [Option<f64>; 3],
+    rates: [Option<f64>; 4],
 }
 
 fn row(what: &'static str, unit: &'static str, runners: &[Runner]) -> Row {
-    let of = |name| runners.iter().find(|r| r.name == name).map(|r| r.best);
-    Row { what, unit, rates: [of("lane"), of("twin"), of("WiredTiger")] }
+    Row { what, unit, rates: ["lane", "twin", WIRED, WIRED_ONCE].map(|name| best(runners, name)) }
+}
+
+fn best(runners: &[Runner], name: &str) -> Option<f64> {
+    runners.iter().find(|r| r.name == name).map(|r| r.best)
 }
 
 fn print(rows: &[Row]) {
     let cell = |rate: Option<f64>| rate.map_or("-".into(), thousands);
-    let ratio = |a: Option<f64>, b: Option<f64>| match (a, b) {
-        (Some(a), Some(b)) => format!("{:.2}", a / b),
-        _ => "-".into(),
+    let line = |a: &str, b: &str, rest: [String; 7]| {
+        let numbers: String = rest.iter().map(|n| format!(" {n:>11}")).collect();
+        println!("{a:<48} {b:<12}{numbers}");
     };
-    println!(
-        "{:<50} {:<15} {:>12} {:>12} {:>12} {:>10} {:>16}",
-        "", "a second", "lane", "twin", "WiredTiger", "lane/twin", "lane/WiredTiger"
-    );
-    for Row { what, unit, rates: [lane, twin, wired] } in rows {
-        println!(
-            "{what:<50} {unit:<15} {:>12} {:>12} {:>12} {:>10} {:>16}",
-            cell(*lane),
-            cell(*twin),
-            cell(*wired),
-            ratio(*lane, *twin),
-            ratio(*lane, *wired)
-        );
+    let heads = ["lane", "twin", "WiredTiger", "WT, once", "lane/twin", "lane/WT", "lane/once"];
+    line("", "a second", heads.map(String::from));
+    for Row { what, unit, rates } in rows {
+        let ratio = |i: usize| match (rates[0], rates[i]) {
+            (Some(a), Some(b)) => format!("{:.3}", a / b),
+            _ => "-".into(),
+        };
+        let [lane, twin, wired, once] = rates.map(cell);
+        line(what, unit, [lane, twin, wired, once, ratio(1), ratio(2), ratio(3)]);
     }
 }
 
@@ -301,31 +307,36 @@ fn main() {
         Row {
             what: "   plain pass over the same 4,096 words: a sum",
             unit: "passes",
-            rates: [Some(plain[0].best), None, None],
+            rates: [Some(plain[0].best), None, None, None],
         },
         Row {
             what: "   plain pass: a search for a word not there",
             unit: "passes",
-            rates: [Some(plain[1].best), None, None],
+            rates: [Some(plain[1].best), None, None, None],
         },
         Row {
             what: "W1's stream through the desk program",
             unit: "calls",
-            rates: [Some(desk_rate), Some(twin_rate), None],
+            rates: [Some(desk_rate), Some(twin_rate), None, None],
         },
         Row {
             what: "W1's stream through lane_serve at once",
             unit: "calls",
-            rates: [Some(serve_rate), Some(twin_rate), None],
+            rates: [Some(serve_rate), Some(twin_rate), None, None],
         },
     ];
     println!("\nBy processor time, best of {PASSES}:\n");
     print(&rows);
-    println!("\nGoals");
+    println!("\nWT: WiredTiger with its isolation named at each start, as in its own examples; once: named for a session.\n\nGoals");
     for row in &rows[..2] {
-        let ratio = row.rates[2].and_then(|wired| row.rates[0].map(|lane| lane / wired));
-        let measured = ratio.map_or(String::new(), |r| format!(", {r:.2} times as fast"));
-        goal(&format!("{} at least as fast as WiredTiger", &row.what[..2]), ratio.map(|r| r >= 1.0), measured);
+        let ratio = |i: usize| row.rates[i].and_then(|wired| row.rates[0].map(|lane| lane / wired));
+        let measured = match (ratio(2), ratio(3)) {
+            (Some(each), Some(once)) => {
+                format!(", {each:.2} times as fast ({once:.2} where its isolation is named once)")
+            }
+            _ => String::new(),
+        };
+        goal(&format!("{} at least as fast as WiredTiger", &row.what[..2]), ratio(2).map(|r| r >= 1.0), measured);
     }
     let [read, pass, search] = [w3[0].best, plain[0].best, plain[1].best];
     let measured = format!(", {:.2} sums long ({:.2} searches)", pass / read, search / read);

@@ -79,7 +79,7 @@ pub mod wired {
     }
 
     extern "C" {
-        fn wired_open(home: *const c_char, places: c_int) -> *mut Handle;
+        fn wired_open(home: *const c_char, places: c_int, at_each_start: c_int) -> *mut Handle;
         fn wired_close(w: *mut Handle);
         fn wired_start(w: *mut Handle, place: c_int) -> c_int;
         fn wired_commit(w: *mut Handle, place: c_int) -> c_int;
@@ -94,14 +94,15 @@ pub mod wired {
     }
 
     impl Wired {
-        pub fn open() -> Option<Wired> {
+        /// With the isolation named at each start, or once for a session.
+        pub fn open(at_each_start: bool) -> Option<Wired> {
             static OPENED: AtomicU32 = AtomicU32::new(0);
             let (process, n) = (std::process::id(), OPENED.fetch_add(1, Ordering::Relaxed));
             let home = std::env::temp_dir().join(format!("lane-bench-{process}-{n}"));
             std::fs::create_dir_all(&home).ok()?;
             let path = CString::new(home.to_str()?).ok()?;
             // SAFETY: a string that ends in 0, and 16 places, which wired.c has room for.
-            let handle = unsafe { wired_open(path.as_ptr(), 16) };
+            let handle = unsafe { wired_open(path.as_ptr(), 16, c_int::from(at_each_start)) };
             (!handle.is_null()).then(|| Wired { handle, home })
         }
 

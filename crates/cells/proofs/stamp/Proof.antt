@@ -1,34 +1,45 @@
 use borrow.Author.Needs.{needs}
-use mathlib.Core.Logic.{⊎-elim}
-use mathlib.Core.Path.{_≡_, sym, ap, _∙_}
-use Prim.Native.Nat.{_+_, _-_, _/_, _≤_, _<_}
-use lib.ListN.{length, getD}
-use Rattle.cells.specs.Cells.{cellsOf, withCells, noCell}
+use native.Mathlib.Omega.{arith}
+use mathlib.Core.Path.{_≡_, _∙_}
+use mathlib.Core.Bool.{true, false}
+use Prim.Native.Nat.{ℕ, _+_, _-_}
+use lib.ListN.{length}
+use Rattle.cells.specs.declared.Cell.{Cell}
+use Rattle.cells.specs.Cells.{cellsOf, withCells}
 use Rattle.cells.specs.Rules.{stamped}
+use Rattle.cells.specs.Search.{partIs}
 use Rattle.cells.proofs.Laws.{mapTo}
-use Rattle.cells.proofs.Scan.{to-none, to-at, to-next, to-keep, to-end, to-length}
+use Rattle.cells.proofs.Scan.{to-none, to-at, to-next, to-end}
+use Rattle.cells.proofs.Skip.{to-over, other-not-own}
 use Rattle.cells.proofs.Writes.{stamped-other}
 use Rattle.cells.proofs.stamp.Statement.{statement}
 use Rattle.cells.proofs.stamp.Tie as tie
 
+-- a cell with another number stays as it is
+stays : (number commit : ℕ) (c : Cell) → partIs true number c ≡ false → stamped number commit c ≡ c
+stays number commit c e = stamped-other number c commit (other-not-own number c e)
+
 abbrev Inv-loop : tie.InvT-loop
-Inv-loop cells₀ number commit n i₀ cells i =
-    (i ≤ n) × (length cells ≡ length cells₀) × (cells ≡ withCells cells₀ (mapTo i (stamped number commit) (cellsOf cells₀)))
+Inv-loop cells₀ number commit n at₀ cells at =
+    (length cells ≡ length cells₀) × (cells ≡ withCells cells₀ (mapTo at (stamped number commit) (cellsOf cells₀)))
 
 abbrev μ-loop : tie.MeasureT-loop
-μ-loop cells₀ number commit n i₀ cells i = n - i
+μ-loop cells₀ number commit n at₀ cells at = n - at
 
 count-requires : tie.Need-count-requires Inv-loop μ-loop
 count-requires c κs = search needs
 
+next-requires : tie.Need-next-requires Inv-loop μ-loop
+next-requires c κs = search needs
+
 loop-holds : tie.Need-loop-holds Inv-loop μ-loop
-loop-holds c = (search needs, search needs, to-none _ _)
+loop-holds c =
+    let s = c .before .before .before .before .before .args in
+    let f = stamped (s .number) (s .commit) in
+    (search needs, to-over f (s .number) (stays (s .number) (s .commit)) (s .cells .now) (s .cells .now) 0 _ (to-none f _) (c .next .ensures))
 
 cell-at-requires : tie.Need-cell-at-requires Inv-loop μ-loop
 cell-at-requires c κs = search needs
-
-own-requires : tie.Need-own-requires Inv-loop μ-loop
-own-requires c κs = search needs
 
 stamped-requires : tie.Need-stamped-requires Inv-loop μ-loop
 stamped-requires c κs = search needs
@@ -36,33 +47,31 @@ stamped-requires c κs = search needs
 put-cell-requires : tie.Need-put-cell-requires Inv-loop μ-loop
 put-cell-requires c κs = search needs
 
-add-i : tie.Need-add-i Inv-loop μ-loop
-add-i c = search needs
+add-next : tie.Need-add-next Inv-loop μ-loop
+add-next c = search needs
+
+next-requires-2 : tie.Need-next-requires-2 Inv-loop μ-loop
+next-requires-2 c κs = search needs
 
 loop-less : tie.Need-loop-less Inv-loop μ-loop
 loop-less c = search needs
 
 loop-again : tie.Need-loop-again Inv-loop μ-loop
 loop-again c =
-    let l = c .before .before .before .before .before in
-    let s = l .before .before .before .before .args in
-    let ws = s .cells .now in
+    let l = c .before .before .before .before .before .before .before .before .before .before in
+    let s = l .before .before .before .before .before .before .args in
     let f = stamped (s .number) (s .commit) in
-    let h : l .loop .i < length ws / 4 = search needs in
-    let x = getD (cellsOf ws) (l .loop .i) noCell in
-    let at = to-at f ws (l .loop .i) in
-    let e : c .if1 .cells ≡ withCells ws (mapTo (l .loop .i + 1) f (cellsOf ws)) =
-    ⊎-elim
-    (λ w. cc (at, to-next ws (l .loop .i) h f))
-    (λ w. cc (to-keep ws (l .loop .i) h f (stamped-other (s .number) x (s .commit) (cc at))))
-    (c .if1 .came) in
-    (search needs, ap length e ∙ to-length f ws (l .loop .i + 1), e)
+    let ws = s .cells .now in
+    let i = l .loop .at in (
+      search needs,
+      to-over f (s .number) (stays (s .number) (s .commit)) ws _ (i + 1) _ (cc (to-at f ws i, to-next ws i (search needs) f)) (c .next2 .ensures),
+    )
 
 same-length : tie.Need-same-length Inv-loop μ-loop
 same-length c = search needs
 
 returns : tie.Need-returns Inv-loop μ-loop
-returns c = c .before .loop .inv .2 ∙ to-end _ (c .before .loop .i) (search needs) _
+returns c = c .before .loop .inv .1 ∙ to-end _ (c .before .loop .at) (search needs) _
 
 pub stamp-spec : {M : Type 1} → statement M
 stamp-spec =
@@ -71,12 +80,13 @@ stamp-spec =
     Inv-loop
     μ-loop
     count-requires
+    next-requires
     loop-holds
     cell-at-requires
-    own-requires
     stamped-requires
     put-cell-requires
-    add-i
+    add-next
+    next-requires-2
     loop-less
     loop-again
     same-length

@@ -1,19 +1,27 @@
 use borrow.Author.Needs.{needs}
-use mathlib.Core.Logic.{⊎-elim}
-use mathlib.Core.Path.{_≡_, sym, ap, _∙_}
-use Prim.Native.Nat.{_+_, _-_, _/_, _≤_, _<_}
-use lib.ListN.{length, getD}
-use Rattle.cells.specs.Cells.{cellsOf, withCells, noCell}
+use native.Mathlib.Omega.{arith}
+use mathlib.Core.Path.{_≡_, _∙_}
+use mathlib.Core.Bool.{true, false}
+use Prim.Native.Nat.{ℕ, _+_, _-_}
+use lib.ListN.{length}
+use Rattle.cells.specs.declared.Cell.{Cell}
+use Rattle.cells.specs.Cells.{cellsOf, withCells}
 use Rattle.cells.specs.Rules.{wiped}
+use Rattle.cells.specs.Search.{partIs}
 use Rattle.cells.proofs.Laws.{mapTo}
-use Rattle.cells.proofs.Scan.{to-none, to-at, to-next, to-keep, to-end, to-length}
+use Rattle.cells.proofs.Scan.{to-none, to-at, to-next, to-end}
+use Rattle.cells.proofs.Skip.{to-over, other-not-own}
 use Rattle.cells.proofs.Writes.{wiped-other}
 use Rattle.cells.proofs.wipe.Statement.{statement}
 use Rattle.cells.proofs.wipe.Tie as tie
 
+-- a cell with another number stays as it is
+stays : (number : ℕ) (c : Cell) → partIs true number c ≡ false → wiped number c ≡ c
+stays number c e = wiped-other number c (other-not-own number c e)
+
 abbrev Inv-loop : tie.InvT-loop
 Inv-loop cells₀ number n i₀ cells i =
-    (i ≤ n) × (length cells ≡ length cells₀) × (cells ≡ withCells cells₀ (mapTo i (wiped number) (cellsOf cells₀)))
+    (length cells ≡ length cells₀) × (cells ≡ withCells cells₀ (mapTo i (wiped number) (cellsOf cells₀)))
 
 abbrev μ-loop : tie.MeasureT-loop
 μ-loop cells₀ number n i₀ cells i = n - i
@@ -21,14 +29,17 @@ abbrev μ-loop : tie.MeasureT-loop
 count-requires : tie.Need-count-requires Inv-loop μ-loop
 count-requires c κs = search needs
 
+next-requires : tie.Need-next-requires Inv-loop μ-loop
+next-requires c κs = search needs
+
 loop-holds : tie.Need-loop-holds Inv-loop μ-loop
-loop-holds c = (search needs, search needs, to-none _ _)
+loop-holds c =
+    let s = c .before .before .before .before .before .args in
+    let f = wiped (s .number) in
+    (search needs, to-over f (s .number) (stays (s .number)) (s .cells .now) (s .cells .now) 0 _ (to-none f _) (c .next .ensures))
 
 cell-at-requires : tie.Need-cell-at-requires Inv-loop μ-loop
 cell-at-requires c κs = search needs
-
-own-requires : tie.Need-own-requires Inv-loop μ-loop
-own-requires c κs = search needs
 
 wiped-requires : tie.Need-wiped-requires Inv-loop μ-loop
 wiped-requires c κs = search needs
@@ -36,33 +47,31 @@ wiped-requires c κs = search needs
 put-cell-requires : tie.Need-put-cell-requires Inv-loop μ-loop
 put-cell-requires c κs = search needs
 
-add-i : tie.Need-add-i Inv-loop μ-loop
-add-i c = search needs
+add-next : tie.Need-add-next Inv-loop μ-loop
+add-next c = search needs
+
+next-requires-2 : tie.Need-next-requires-2 Inv-loop μ-loop
+next-requires-2 c κs = search needs
 
 loop-less : tie.Need-loop-less Inv-loop μ-loop
 loop-less c = search needs
 
 loop-again : tie.Need-loop-again Inv-loop μ-loop
 loop-again c =
-    let l = c .before .before .before .before .before in
-    let s = l .before .before .before .before .args in
-    let ws = s .cells .now in
+    let l = c .before .before .before .before .before .before .before .before .before .before in
+    let s = l .before .before .before .before .before .before .args in
     let f = wiped (s .number) in
-    let h : l .loop .i < length ws / 4 = search needs in
-    let x = getD (cellsOf ws) (l .loop .i) noCell in
-    let at = to-at f ws (l .loop .i) in
-    let e : c .if1 .cells ≡ withCells ws (mapTo (l .loop .i + 1) f (cellsOf ws)) =
-    ⊎-elim
-    (λ w. cc (at, to-next ws (l .loop .i) h f))
-    (λ w. cc (to-keep ws (l .loop .i) h f (wiped-other (s .number) x (cc at))))
-    (c .if1 .came) in
-    (search needs, ap length e ∙ to-length f ws (l .loop .i + 1), e)
+    let ws = s .cells .now in
+    let i = l .loop .i in (
+      search needs,
+      to-over f (s .number) (stays (s .number)) ws _ (i + 1) _ (cc (to-at f ws i, to-next ws i (search needs) f)) (c .next2 .ensures),
+    )
 
 same-length : tie.Need-same-length Inv-loop μ-loop
 same-length c = search needs
 
 returns : tie.Need-returns Inv-loop μ-loop
-returns c = c .before .loop .inv .2 ∙ to-end _ (c .before .loop .i) (search needs) _
+returns c = c .before .loop .inv .1 ∙ to-end _ (c .before .loop .i) (search needs) _
 
 pub wipe-spec : {M : Type 1} → statement M
 wipe-spec =
@@ -71,12 +80,13 @@ wipe-spec =
     Inv-loop
     μ-loop
     count-requires
+    next-requires
     loop-holds
     cell-at-requires
-    own-requires
     wiped-requires
     put-cell-requires
-    add-i
+    add-next
+    next-requires-2
     loop-less
     loop-again
     same-length

@@ -1,14 +1,18 @@
 -- `Board::read` meets its contract.
 -- Assumes nothing.
-use mathlib.Core.Path.{_≡_, sym, _∙_}
+use mathlib.Core.Path.{_≡_, sym, ap, _∙_}
+use mathlib.Core.Bool.{Bool, _&&_}
 use borrow.Author.Needs.{needs}
 use Rattle.records.specs.declared.Call.{Call}
 use Rattle.cells.specs.declared.Found.{Found}
+use Rattle.cells.specs.declared.Looked.{Looked}
 use Rattle.cells.specs.Cells.{cellsOf}
 use Rattle.cells.specs.Rules.{ownAt}
 use Rattle.cells.proofs.Meaning.{own-inside}
+use Rattle.steps.specs.Spent.{heldBack}
 use Rattle.steps.specs.Step.{numberAt}
 use Rattle.steps.proofs.Checks.{Passed, passed, refused}
+use Rattle.steps.proofs.Quick.{held-if}
 use Rattle.steps.proofs.Ends.{read-own, read-held, read-seen}
 use Rattle.steps.proofs.Board.read.Statement.{statement}
 use Rattle.steps.proofs.Board.read.Tie as tie
@@ -22,12 +26,25 @@ go c = passed _ _ _ (c .before .before .check .ensures) (c .before .number .ensu
 found : (c : tie.After-known-told)
     → (let a = c .before .before .before .before .before .before .before .before .before .args in
     ownAt (a .key) (numberAt (a .t1) (a .place)) (cellsOf (a .cells .now)) ≡ Found.At (c .before .mine .given .0 .0))
-found c = sym (c .before .before .before .own-at .ensures) ∙ c .before .mine .given .1
+found c = sym (ap (λ (l : Looked). l .own) (c .before .before .before .look .ensures)) ∙ c .before .mine .given .1
 
 none : (c : tie.After-enum-told)
     → (let a = c .before .before .before .before .before .before .before .before .args in
     ownAt (a .key) (numberAt (a .t1) (a .place)) (cellsOf (a .cells .now)) ≡ Found.Nothing)
-none c = sym (c .before .before .own-at .ensures) ∙ c .enum-told .given .1
+none c = sym (ap (λ (l : Looked). l .own) (c .before .before .look .ensures)) ∙ c .enum-told .given .1
+
+-- whether a prepared writer holds the key back, where that is asked only if a foreign cell was seen
+held-of : (n : tie.After-enum-told) {r t : Bool}
+    → (let a = n .before .before .before .before .before .before .before .before .args in
+    let cs = cellsOf (a .cells .now) in
+    let held = heldBack (a .key) (numberAt (a .t1) (a .place)) (a .t1 .places) cs in
+    r ≡ (n .before .before .look .result .foreign && held) → r ≡ t → held ≡ t)
+held-of n e f =
+    let a = n .before .before .before .before .before .before .before .before .args in
+    let cs = cellsOf (a .cells .now) in
+    let held = heldBack (a .key) (numberAt (a .t1) (a .place)) (a .t1 .places) cs in
+    let seen = ap (λ (l : Looked). l .foreign && held) (n .before .before .look .ensures) in
+    sym (held-if (a .key) (numberAt (a .t1) (a .place)) (a .t1 .places) cs) ∙ sym seen ∙ sym e ∙ f
 
 check-requires : tie.Need-check-requires
 check-requires c κs = search needs
@@ -51,8 +68,8 @@ mul-p c = search needs
 element-copy-out-p : tie.Need-element-copy-out-p
 element-copy-out-p c = go c .below
 
-own-at-requires : tie.Need-own-at-requires
-own-at-requires c κs = search needs
+look-requires : tie.Need-look-requires
+look-requires c κs = search needs
 
 enum-known-mine : tie.Need-enum-known-mine
 enum-known-mine c = search needs
@@ -76,8 +93,8 @@ returns-2 c =
 enum-told : tie.Need-enum-told
 enum-told c = search needs
 
-held-back-requires : tie.Need-held-back-requires
-held-back-requires c κs = search needs
+held-back-if-requires : tie.Need-held-back-if-requires
+held-back-if-requires c κs = search needs
 
 with-requires-3 : tie.Need-with-requires-3
 with-requires-3 c κs = search needs
@@ -87,11 +104,8 @@ returns-3 c =
     let n = c .before .before .before .before in
     let k = n .before .before .before .before in
     let a = k .before .before .before .before .args in
-    let held = sym (c .before .before .held-back .ensures) ∙ c .before .if2 .taken in
+    let held = held-of n (c .before .before .held-back-if .ensures) (c .before .if2 .taken) in
     go k .is (c .with3 .ensures) (read-held (a .t1) (a .cells .now) (a .place) (a .key) (none n) held)
-
-newest-seen-requires : tie.Need-newest-seen-requires
-newest-seen-requires c κs = search needs
 
 with-requires-4 : tie.Need-with-requires-4
 with-requires-4 c κs = search needs
@@ -101,9 +115,9 @@ returns-4 c =
     let n = c .before .before .before .before .before in
     let k = n .before .before .before .before in
     let a = k .before .before .before .before .args in
-    let held = sym (c .before .before .before .held-back .ensures) ∙ c .before .before .if2 .left in
+    let held = held-of n (c .before .before .before .held-back-if .ensures) (c .before .before .if2 .left) in
     go k .is (c .with4 .ensures)
-    (read-seen (a .t1) (a .cells .now) (a .place) (a .key) (none n) held (c .before .newest-seen .ensures))
+    (read-seen (a .t1) (a .cells .now) (a .place) (a .key) (none n) held (ap (λ (l : Looked). l .newest) (n .before .before .look .ensures)))
 
 pub read-spec : {M : Type 1} → statement M
 read-spec =
@@ -115,15 +129,14 @@ read-spec =
     returns
     mul-p
     element-copy-out-p
-    own-at-requires
+    look-requires
     enum-known-mine
     cell-at-requires
     with-requires-2
     returns-2
     enum-told
-    held-back-requires
+    held-back-if-requires
     with-requires-3
     returns-3
-    newest-seen-requires
     with-requires-4
     returns-4)

@@ -1,11 +1,12 @@
 -- `Board::update` meets its contract.
 -- Assumes nothing.
-use mathlib.Core.Path.{_≡_, sym, _∙_}
+use mathlib.Core.Path.{_≡_, sym, ap, _∙_}
 use mathlib.Core.Bool.{false}
 use native.Mathlib.Omega.{arith}
 use borrow.Author.Needs.{needs}
 use Rattle.records.specs.declared.Call.{Call}
 use Rattle.cells.specs.declared.Found.{Found}
+use Rattle.cells.specs.declared.Looked.{Looked}
 use Rattle.cells.specs.Cells.{cellsOf}
 use Rattle.cells.specs.Rules.{ownAt, conflict}
 use Rattle.cells.proofs.Meaning.{own-inside}
@@ -26,23 +27,23 @@ go c = passed _ _ _ (c .before .before .check .ensures) (c .before .number .ensu
 found : (c : tie.After-known-told)
     → (let a = c .before .before .before .before .before .before .before .before .before .before .args in
     ownAt (a .key) (numberAt (a .t1) (a .place)) (cellsOf (a .cells .now)) ≡ Found.At (c .before .mine .given .0 .0))
-found c = sym (c .before .before .before .own-at .ensures) ∙ c .before .mine .given .1
+found c = sym (ap (λ (l : Looked). l .own) (c .before .before .before .look .ensures)) ∙ c .before .mine .given .1
 
 none : (c : tie.After-enum-told)
     → (let a = c .before .before .before .before .before .before .before .before .before .args in
     ownAt (a .key) (numberAt (a .t1) (a .place)) (cellsOf (a .cells .now)) ≡ Found.Nothing)
-none c = sym (c .before .before .own-at .ensures) ∙ c .enum-told .given .1
+none c = sym (ap (λ (l : Looked). l .own) (c .before .before .look .ensures)) ∙ c .enum-told .given .1
 
 -- nothing clashes
 clear : (c : tie.Else2)
-    → (let n = c .before .before .before in
+    → (let n = c .before in
     let a = n .before .before .before .before .before .before .before .before .before .args in
     conflict (a .key) (numberAt (a .t1) (a .place)) (viewAt (a .t1) (a .place)) (cellsOf (a .cells .now)) ≡ false)
-clear c = sym (c .before .conflicts .ensures) ∙ c .if2 .left
+clear c = sym (ap (λ (l : Looked). l .conflict) (c .before .before .before .look .ensures)) ∙ c .if2 .left
 
 -- a free cell was found
 room : (c : tie.After-known-told2)
-    → (let n = c .before .before .before .before .before .before .before .before .before in
+    → (let n = c .before .before .before .before .before .before .before in
     let a = n .before .before .before .before .before .before .before .before .before .args in
     reusable (a .t1 .places) (cellsOf (a .cells .now)) ≡ Found.At (c .before .free .given .0 .0))
 room c = sym (c .before .before .before .reusable .ensures) ∙ c .before .free .given .1
@@ -69,8 +70,8 @@ mul-p c = search needs
 element-copy-out-p : tie.Need-element-copy-out-p
 element-copy-out-p c = go c .below
 
-own-at-requires : tie.Need-own-at-requires
-own-at-requires c κs = search needs
+look-requires : tie.Need-look-requires
+look-requires c κs = search needs
 
 enum-known-mine : tie.Need-enum-known-mine
 enum-known-mine c = search needs
@@ -108,17 +109,14 @@ returns-2 c =
 enum-told : tie.Need-enum-told
 enum-told c = search needs
 
-conflicts-requires : tie.Need-conflicts-requires
-conflicts-requires c κs = search needs
-
 in-state-requires : tie.Need-in-state-requires
 in-state-requires c κs = search needs
 
-mul-t41 : tie.Need-mul-t41
-mul-t41 c = search needs
+mul-t39 : tie.Need-mul-t39
+mul-t39 c = search needs
 
 element-set-from-self : tie.Need-element-set-from-self
-element-set-from-self c = go (c .before .before .before .before .before .before .before .before .before) .below
+element-set-from-self c = go (c .before .before .before .before .before .before .before) .below
 
 with-requires-3 : tie.Need-with-requires-3
 with-requires-3 c κs = search needs
@@ -128,10 +126,10 @@ same-length-2 c = search needs
 
 returns-3 : tie.Need-returns-3
 returns-3 c =
-    let n = c .before .before .before .before .before in
+    let n = c .before .before .before in
     let k = n .before .before .before .before .before in
     let a = k .before .before .before .before .args in
-    let clash = sym (c .before .before .before .conflicts .ensures) ∙ c .before .before .if2 .taken in
+    let clash = sym (ap (λ (l : Looked). l .conflict) (n .before .before .look .ensures)) ∙ c .before .before .if2 .taken in
     go k .is (c .with3 .ensures)
     (update-clash (a .t1) (a .cells .now) (a .place) (a .key) (a .value) (none n) clash (c .before .in-state .ensures))
 
@@ -153,21 +151,21 @@ same-length-3 c = search needs
 returns-4 : tie.Need-returns-4
 returns-4 c =
     let l = c .before .before .before .before .before .before in
-    let n = l .before .before .before in
+    let n = l .before in
     let k = n .before .before .before .before .before in
     let a = k .before .before .before .before .args in
     let full = sym (c .before .before .before .reusable .ensures) ∙ c .before .enum-told2 .given .1 in
     go k .is (c .with4 .ensures)
     (update-full (a .t1) (a .cells .now) (a .place) (a .key) (a .value) (none n) (clear l) full)
 
-add-t50 : tie.Need-add-t50
-add-t50 c =
-    let n = c .before .before .before .before .before .before .before .before .before in
+add-t48 : tie.Need-add-t48
+add-t48 c =
+    let n = c .before .before .before .before .before .before .before in
     omega (arith, go (n .before .before .before .before .before) .keyed)
 
 put-cell-requires-2 : tie.Need-put-cell-requires-2
 put-cell-requires-2 c κs =
-    let n = c .before .before .before .before .before .before .before .before .before .before in
+    let n = c .before .before .before .before .before .before .before .before in
     let a = n .before .before .before .before .before .before .before .before .before .args in
     free-inside (a .t1 .places) (a .cells .now) _ (room (c .before))
 
@@ -181,7 +179,7 @@ returns-5 : tie.Need-returns-5
 returns-5 c =
     let r = c .before .before .before .before .before in
     let l = r .before .before .before .before .before .before in
-    let n = l .before .before .before in
+    let n = l .before in
     let k = n .before .before .before .before .before in
     let a = k .before .before .before .before .args in
     go k .is (c .with5 .ensures)
@@ -198,7 +196,7 @@ update-spec =
     returns
     mul-p
     element-copy-out-p
-    own-at-requires
+    look-requires
     enum-known-mine
     cell-at-requires
     valued-requires
@@ -207,9 +205,8 @@ update-spec =
     same-length
     returns-2
     enum-told
-    conflicts-requires
     in-state-requires
-    mul-t41
+    mul-t39
     element-set-from-self
     with-requires-3
     same-length-2
@@ -220,7 +217,7 @@ update-spec =
     with-requires-4
     same-length-3
     returns-4
-    add-t50
+    add-t48
     put-cell-requires-2
     with-requires-5
     same-length-4
