@@ -1,5 +1,5 @@
 /* WiredTiger as a peer: in memory, one thread, a session with snapshot isolation for each place. The isolation is named
- * at each start, as in WiredTiger's own examples, or once when a session is opened, which spares it reading that word. */
+ * once, when a session is opened, or again at each start, which makes WiredTiger read a configuration word each time. */
 #include <stdint.h>
 #include <stdio.h>
 #include <stdlib.h>
