@@ -9,21 +9,18 @@ use mathlib.Core.List.{List, [], _∷_, _++_, append-assoc}
 use Prim.Native.Nat.{ℕ, zero, suc, _+_, _*_, _≤_, _<_, zero-le, suc-le-suc}
 use native.Mathlib.Nat.{zero-add, suc-add, not-suc-le-zero, le-of-suc-le-suc}
 use native.Mathlib.Omega.{arith}
-use lib.ListN.{length, take, drop, length-drop}
-use lib.Seq.{take-append-le, drop-append-le, drop-drop}
+use lib.ListN.{length, drop, length-drop}
+use lib.Seq.{drop-append-le, drop-drop}
 use Rattle.records.specs.declared.Call.{Call}
 use Rattle.records.specs.declared.CallRead.{CallRead}
 use Rattle.records.specs.declared.Reply.{Reply}
 use Rattle.records.specs.Format.{callBytes, answerRecord, callAt}
+use Rattle.records.proofs.RoundTrip.{calls}
 use Rattle.steps.specs.declared.Board.{Board}
 use Rattle.steps.specs.Step.{step}
-use Rattle.lanes.specs.Serve.{readThen, callsIn, Run, replyTo, runOf, recordsOf}
+use Rattle.lanes.specs.Serve.{readThen, callsIn, replyTo, runOf, recordsOf}
 
 -- READING
-
-callAt-front : (bs more : List ℕ) → callBytes ≤ length bs → callAt (bs ++ more) 0 ≡ callAt bs 0
-unfolding callAt
-callAt-front bs more h = rw take-append-le
 
 pub callsIn-front : (n : ℕ) (bs more : List ℕ) → callBytes * n ≤ length bs → callsIn n (bs ++ more) ≡ callsIn n bs
 unfolding callsIn
@@ -33,7 +30,7 @@ callsIn-front (suc n) bs more h =
     let rest : callBytes * n ≤ length (drop callBytes bs) = simp length-drop (omega arith) in
     let behind : callsIn n (drop callBytes (bs ++ more)) ≡ callsIn n (drop callBytes bs) =
     ap (callsIn n) (drop-append-le callBytes bs more long) ∙ callsIn-front n (drop callBytes bs) more rest in
-    λ i. readThen (callAt-front bs more long i) (behind i)
+    λ i. readThen (calls .behind bs more 0 long i) (behind i)
 
 read-at-most : (r : CallRead) (calls : List Call) (n : ℕ) → length calls ≤ n → length (readThen r calls) ≤ suc n
 read-at-most (CallRead.Good c) calls n h = suc-le-suc h

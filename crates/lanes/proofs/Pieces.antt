@@ -6,7 +6,7 @@ use mathlib.Core.Path.{_≡_, refl, sym, ap, _∙_, subst⁻¹}
 use mathlib.Core.Logic.{⊎-elim}
 use mathlib.Core.Bool.{Bool, true, false, cond, false≢true}
 use mathlib.Core.List.{List, [], _∷_, _++_, append-assoc, append-nil, flatten}
-use Prim.Native.Nat.{ℕ, zero, suc, _+_, _*_, _/_, _≤_, _<_, min}
+use Prim.Native.Nat.{ℕ, zero, suc, _+_, _*_, _≤_, _<_}
 use native.Mathlib.Nat.{eq-or-lt-of-le, add-left-cancel}
 use native.Mathlib.Omega.{arith}
 use lib.Dec.{eqb, ltb, leb, eqb·suc-zero, eqb·zero-suc}
@@ -14,11 +14,10 @@ use lib.ListN.{length, drop, length-append, length-drop}
 use lib.Seq.{drop-append-le}
 use borrow.Author.Tests.{lt-ltb, le-ltb, le-leb, eq-eqb, ne-eqb, eqb-true, eqb-false}
 use Rattle.records.specs.declared.Call.{Call}
-use Rattle.records.specs.declared.Reply.{Reply}
 use Rattle.records.specs.Format.{callBytes, answerBytes, answerRecord}
 use Rattle.steps.specs.declared.Board.{Board}
 use Rattle.lanes.specs.declared.Stop.{Stop}
-use Rattle.lanes.specs.Serve.{noCall, callsIn, Run, runOf, recordsOf, wholeCalls, tried, refused, stopOf, Service, serveFirst, serveOf}
+use Rattle.lanes.specs.Serve.{noCall, callsIn, Run, runOf, recordsOf, wholeCalls, tried, refused, Service, serveFirst, serveOf}
 use Rattle.lanes.specs.Desk.{answersTo, deskOf, deskWords, serveAll, atEnd, goesOn, inPieces}
 use Rattle.steps.specs.Record.{freshBoard}
 use Rattle.lanes.proofs.Calls.{callsIn-front, callsIn-at-most, callsIn-all, callsIn-stop, run-replies, records-append}

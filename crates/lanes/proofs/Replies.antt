@@ -1,38 +1,23 @@
 -- Writing the answer to a call that was read never fails: a call from bytes has a place byte, and an answer's value is a u32.
 -- Assumes nothing.
-use mathlib.Core.Path.{_≡_, refl, sym, ap, _∙_, subst}
-use mathlib.Core.Bool.{Bool, true, false, cond, _&&_, false≢true}
-use mathlib.Core.List.{List, [], _∷_, _++_}
-use Prim.Native.Nat.{ℕ, zero, suc, _+_, _%_, _≤_, _<_, _^_}
+use mathlib.Core.Path.{_≡_, refl, sym, ap, _∙_}
+use mathlib.Core.Bool.{true, false, _&&_}
+use mathlib.Core.List.{List}
+use Prim.Native.Nat.{ℕ, _+_, _≤_, _<_, _^_}
 use native.Mathlib.Omega.{arith}
-use lib.Dec.{eqb, ltb, leb, lit<}
-use lib.ListN.{length, getD, take, drop}
-use borrow.Author.Tests.{eqb-true, lt-ltb, le-leb}
+use lib.Dec.{leb, lit<}
+use lib.ListN.{length}
+use borrow.Author.Tests.{lt-ltb, le-leb}
 use Rattle.records.specs.declared.Answer.{Answer}
 use Rattle.records.specs.declared.Call.{Call}
 use Rattle.records.specs.declared.CallRead.{CallRead}
 use Rattle.records.specs.declared.Reply.{Reply}
 use Rattle.records.specs.Answers.{numberOf, valueOf, placeOf}
-use Rattle.records.specs.Format.{
-  callBytes,
-  answerBytes,
-  goesIn,
-  sameBytes,
-  callOf,
-  callFrom,
-  callRecord,
-  callIn,
-  callAt,
-  answerOf,
-  answerRecord,
-  replyFits,
-  putAt,
-  Written,
-  wrote,
-  writtenAnswer,
-}
-use Rattle.records.proofs.Bytes.{same-equal}
+use Rattle.records.specs.Format.{answerBytes, goesIn, keyOf, newValueOf, callAt, answerOf, answerRecord, replyFits}
+use Rattle.records.specs.Format.{putAt, Written, wrote, writtenAnswer}
+use Rattle.records.proofs.Bytes.{and-left}
 use Rattle.records.proofs.Fields.{answer-length}
+use Rattle.records.proofs.RoundTrip.{calls}
 use Rattle.steps.specs.declared.Board.{Board}
 use Rattle.steps.specs.declared.Answered.{Answered}
 use Rattle.steps.specs.Step.{outcome, step}
@@ -40,34 +25,10 @@ use Rattle.lanes.specs.Serve.{replyTo, noCall, oneAnswered, answerOne}
 
 -- READING
 
-place-in : (kind place key value : ℕ) → placeOf (callOf kind place key value) ≡ place
-place-in zero p k v = refl
-place-in (suc zero) p k v = refl
-place-in (suc (suc zero)) p k v = refl
-place-in (suc (suc (suc zero))) p k v = refl
-place-in (suc (suc (suc (suc zero)))) p k v = refl
-place-in (suc (suc (suc (suc (suc zero))))) p k v = refl
-place-in (suc (suc (suc (suc (suc (suc n)))))) p k v = refl
-
--- the bytes are the record of the call that is read from them
-read-from : (bs : List ℕ) (call : Call) → callIn bs ≡ CallRead.Good call → (bs ≡ callRecord call) × (placeOf call ≡ getD bs 3 0)
-unfolding callIn callFrom
-read-from bs call e = go (sameBytes bs (callRecord (callFrom bs))) refl e
-  where
-    go : (t : Bool) → sameBytes bs (callRecord (callFrom bs)) ≡ t → cond t (CallRead.Good (callFrom bs)) CallRead.Record ≡ CallRead.Good call
-        → (bs ≡ callRecord call) × (placeOf call ≡ getD bs 3 0)
-    go true h g =
-        let same : callFrom bs ≡ call = cc in
-        (same-equal bs (callRecord (callFrom bs)) h ∙ ap callRecord same, ap placeOf (sym same) ∙ place-in (getD bs 2 0) (getD bs 3 0) _ _)
-    go false h g = let z : _≡_ {A = ℕ} 0 1 = cc in absurd (omega arith)
-
 -- a call that was read has a place byte
 pub call-place : (bs : List ℕ) (at : ℕ) (call : Call) → callAt bs at ≡ CallRead.Good call → goesIn 1 (placeOf call) ≡ true
-unfolding callAt callRecord
 call-place bs at call e =
-    let r = read-from (take callBytes (drop at bs)) call e in
-    let byte : placeOf call ≡ placeOf call % 256 = r .1 ∙ ap (λ (l : List ℕ). getD l 3 0) (r .0) in
-    lt-ltb (placeOf call) (256 ^ 1) (omega arith)
+    and-left (goesIn 1 (placeOf call)) (goesIn 2 (keyOf call) && goesIn 4 (newValueOf call)) (calls .reads bs at call .0 e .0)
 
 -- WRITING
 

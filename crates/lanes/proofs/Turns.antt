@@ -9,12 +9,12 @@ use borrow.Author.Tests.{leb-true, leb-false}
 use lib.Dec.{leb}
 use lib.ListN.{length, take, drop}
 use lib.Seq.{take-all, take-append-seam, length-slice}
-use Rattle.records.specs.Format.{callBytes, answerBytes, putAt}
+use Rattle.records.specs.Format.{answerBytes, putAt}
 use Rattle.records.proofs.Bytes.{put-front}
 use Rattle.steps.specs.declared.Board.{Board}
 use Rattle.lanes.specs.declared.Served.{Served}
-use Rattle.lanes.specs.Serve.{wholeCalls, tried, Service, Serving, serving, serveFirst, serveOf, serveInto}
-use Rattle.lanes.specs.Desk.{serveAll, Turning, turning, turnOf}
+use Rattle.lanes.specs.Serve.{wholeCalls, tried, Service, serving, serveFirst, serveOf, serveInto}
+use Rattle.lanes.specs.Desk.{serveAll, turning, turnOf}
 use Rattle.lanes.proofs.Calls.{callsIn-at-most}
 use Rattle.lanes.proofs.Pieces.{roomy}
 
