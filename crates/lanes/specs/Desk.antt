@@ -63,6 +63,7 @@ pub record Turning : Type 0 where
   pub written : ℕ
   pub stop : Stop
 
+-- what a turn handed back, as such a record
 abbrev pub turning : Turned → List ℕ → List ℕ → List ℕ → Turning
 turning r ws bytes answers =
     record {
@@ -75,6 +76,7 @@ turning r ws bytes answers =
       stop = r .stop;
     }
 
+-- what a turn comes to
 unfoldable pub turnOf : Board → List ℕ → List ℕ → ℕ → List ℕ → Turning
 turnOf b ws bytes have answers =
     let s : Serving = serveInto b ws (take have bytes) answers in
@@ -94,9 +96,11 @@ pub record Ending : Type 0 where
   pub written : ℕ
   pub answers : List ℕ
 
+-- what the end handed back, as such a record
 abbrev pub ending : ℕ → List ℕ → Ending
 ending written answers = record { written = written; answers = answers }
 
+-- what the end comes to
 abbrev pub endOf : ℕ → List ℕ → Ending
 endOf left answers =
     let out : List ℕ = cond (leb answerBytes (length answers)) (atEnd left) [] in

@@ -105,6 +105,7 @@ pub record Serving : Type 0 where
   pub written : ℕ
   pub stop : Stop
 
+-- what `serve` handed back, as such a record
 abbrev pub serving : Served → List ℕ → List ℕ → Serving
 serving r ws answers =
     record { board = r .board; words = ws; answers = answers; taken = r .taken; written = r .written; stop = r .stop }
@@ -121,6 +122,7 @@ intoBytes answers s =
       stop = s .stop;
     }
 
+-- what serving bytes of calls into lent bytes comes to
 abbrev pub serveInto : Board → List ℕ → List ℕ → List ℕ → Serving
 serveInto b ws bytes answers = intoBytes answers (serveOf b ws bytes (length answers))
 
@@ -131,9 +133,11 @@ pub record OneAnswered : Type 0 where
   pub answers : List ℕ
   pub good : Bool
 
+-- what answering one record handed back, as such a record
 abbrev pub oneAnswered : Next → List ℕ → List ℕ → OneAnswered
 oneAnswered r ws answers = record { board = r .board; words = ws; answers = answers; good = r .good }
 
+-- a call does its step and is answered in the lent bytes; bytes that are no call change neither record nor words
 abbrev pub answerOne : Board → List ℕ → CallRead → List ℕ → ℕ → OneAnswered
 answerOne b ws (CallRead.Good call) answers to =
     let o : Outcome = step b ws call in
