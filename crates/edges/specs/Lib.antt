@@ -1,0 +1,6 @@
+pub mod Names
+pub mod Shape
+pub mod Checks
+pub mod Steps
+pub mod Records
+pub mod Desk
