@@ -1,6 +1,7 @@
 -- Document 01 at its edges, a theorem for each list, by computation.
 --     shapes          the boards that are just in shape, and those that are just not
---     checks          each refusal of each state, the last key, place and start, and the order of the checks
+--     checks          each refusal of each state, and the last start, place and key
+--     order           where two rows of the table hold, which is given
 --     steps           what each step does to the record and to every word
 --     calls-written, calls-read, no-calls-read, calls-read-at, calls-written-at             the records of calls
 --     answers-written, answers-read, no-answers-read, answers-read-at, answers-written-at   the records of answers
@@ -15,10 +16,12 @@ use Rattle.steps.specs.Shape.{inShape}
 use Rattle.steps.specs.Check.{placeCheck, checkOf}
 use Rattle.steps.specs.Spent.{hasPlace, reusable, heldBack}
 use Rattle.steps.specs.Step.{readAs, updatedAs, step}
+use Rattle.steps.specs.Table.{rows}
 use Rattle.lanes.specs.Serve.{callsIn, runOf, recordsOf}
 use Rattle.lanes.specs.Desk.{answersTo, deskOf}
 use Rattle.edges.specs.Shape.{ShapesHold}
 use Rattle.edges.specs.Checks.{ChecksHold}
+use Rattle.edges.specs.Order.{OrderHolds}
 use Rattle.edges.specs.Steps.{StepsHold}
 use Rattle.edges.specs.Records.{CallsWritten, CallsRead, NoCallsRead, CallsReadAt, CallsWrittenAt}
 use Rattle.edges.specs.Records.{AnswersWritten, AnswersRead, NoAnswersRead, AnswersReadAt, AnswersWrittenAt}
@@ -33,6 +36,11 @@ pub checks : ChecksHold
 unfolding cellsOf pastCells wordsOf withCells lowestFrom hasCell newest ownAt foreignWith newestSeen conflict
     inShape placeCheck checkOf hasPlace reusable heldBack readAs updatedAs step
 checks = refl
+
+pub order : OrderHolds
+unfolding cellsOf pastCells wordsOf withCells lowestFrom hasCell newest ownAt foreignWith newestSeen conflict
+    inShape placeCheck checkOf hasPlace reusable heldBack readAs updatedAs step rows
+order = refl
 
 pub steps : StepsHold
 unfolding cellsOf pastCells wordsOf withCells lowestFrom hasCell newest ownAt foreignWith newestSeen conflict

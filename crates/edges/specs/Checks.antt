@@ -1,4 +1,4 @@
--- What comes back: each refusal of each state, the last key, place and start, and which refusal is given where two rows hold.
+-- What comes back: each refusal of each state, and the last start, place and key.
 -- Assumes nothing.
 use Prim.Native.Nat.{ℕ}
 use mathlib.Core.List.{List, [], _∷_, _++_, map}
@@ -133,10 +133,6 @@ keysUpTo255 =
     ∷ Call.Update 0 4_294_967_295 12 refused KEY
     ∷ []
 
--- THE ORDER
--- Checks run in this order: 1, 2, then 3 or 4, then 5, 6, 7, 8, then the step's own. Behind each call stands the later refusal, whose
--- row holds too.
-
 -- one more transaction, prepared, at place 3
 abbrev pub fourPlaces : Board
 fourPlaces = counts 4 0 (opened 1 0 ∷ spoiled 2 0 ∷ prepared 3 0 ∷ prepared 4 0 ∷ [])
@@ -145,97 +141,15 @@ fourPlaces = counts 4 0 (opened 1 0 ∷ spoiled 2 0 ∷ prepared 3 0 ∷ prepare
 abbrev pub taken : List ℕ
 taken = four 8 5 3 0 ++ four 9 5 1 0 ++ four 10 5 4 0
 
--- one cell, taken by a write of place 2 to key 256
-abbrev pub beyond : List ℕ
-beyond = four 257 5 3 0
-
--- 1 BOARD comes first: on 6 words
-abbrev pub boardFirst : List Asked
-boardFirst =
-    Call.Start 16 refused BOARD  -- PLACE
-    ∷ Call.Start 0 refused BOARD  -- BUSY
-    ∷ Call.Rollback 3 refused BOARD  -- IDLE
-    ∷ Call.Commit 1 refused BOARD  -- SPOILED
-    ∷ Call.Prepare 2 refused BOARD  -- HELD
-    ∷ Call.Read 0 256 refused BOARD  -- KEY
-    ∷ []
-
--- and on three cells with a word more
-abbrev pub boardBeforeSteps : List Asked
-boardBeforeSteps =
-    Call.Update 0 7 12 refused BOARD  -- CONFLICT
-    ∷ Call.Read 0 7 refused BOARD  -- PREPARED
-    ∷ Call.Update 0 10 12 refused BOARD  -- FULL
-    ∷ []
-
--- then 2 PLACE
-abbrev pub placeNext : List Asked
-placeNext =
-    Call.Read 16 256 refused PLACE  -- KEY
-    ∷ Call.Update 4_294_967_295 256 12 refused PLACE  -- KEY
-    ∷ []
-
--- then 4 IDLE: place 4 is idle
-abbrev pub idleNext : List Asked
-idleNext =
-    Call.Read 4 256 refused IDLE  -- KEY
-    ∷ Call.Update 4 256 12 refused IDLE  -- KEY
-    ∷ Call.Update 4 7 12 refused IDLE  -- CONFLICT
-    ∷ Call.Read 4 7 refused IDLE  -- PREPARED
-    ∷ Call.Update 4 10 12 refused IDLE  -- FULL
-    ∷ []
-
--- then 6 SPOILED
-abbrev pub spoiledNext : List Asked
-spoiledNext =
-    Call.Read 1 256 refused SPOILED  -- KEY
-    ∷ Call.Update 1 256 12 refused SPOILED  -- KEY
-    ∷ Call.Update 1 7 12 refused SPOILED  -- CONFLICT
-    ∷ Call.Read 1 7 refused SPOILED  -- PREPARED
-    ∷ Call.Update 1 10 12 refused SPOILED  -- FULL
-    ∷ []
-
--- and 7 HELD
-abbrev pub heldNext : List Asked
-heldNext =
-    Call.Read 2 256 refused HELD  -- KEY
-    ∷ Call.Update 2 256 12 refused HELD  -- KEY
-    ∷ Call.Update 2 8 12 refused HELD  -- CONFLICT
-    ∷ Call.Read 2 9 refused HELD  -- PREPARED
-    ∷ Call.Update 2 10 12 refused HELD  -- FULL
-    ∷ []
-
--- then 8 KEY
-abbrev pub keyNext : List Asked
-keyNext =
-    Call.Update 0 256 12 refused KEY  -- CONFLICT
-    ∷ Call.Read 0 256 refused KEY  -- PREPARED
-    ∷ Call.Update 0 300 12 refused KEY  -- FULL
-    ∷ []
-
--- then the step's own
-abbrev pub ownLast : List Asked
-ownLast =
-    Call.Update 0 7 12 refused CONFLICT  -- FULL
+-- CONFLICT, PREPARED and FULL, as above
+abbrev pub onTaken : List Asked
+onTaken =
+    Call.Update 0 7 12 refused CONFLICT
     ∷ Call.Read 0 7 refused PREPARED
     ∷ Call.Update 0 10 12 refused FULL
     ∷ Call.Update 0 8 12 returns 0
     ∷ Call.Read 0 8 returns 5
     ∷ Call.Read 0 10 returns 0
-    ∷ []
-
--- the boards with their calls
-abbrev pub order : List Block
-order =
-    on three (zeros 6) boardFirst
-    ∷ on (counts 4_000_000_000 0 []) (zeros 6) (Call.Start 0 refused BOARD ∷ [])  -- WORN
-    ∷ on fourPlaces (taken ++ zeros 1) boardBeforeSteps
-    ∷ on three (zeros 16) placeNext
-    ∷ on (counts 4_000_000_000 0 []) (zeros 16) (Call.Start 16 refused PLACE ∷ [])  -- WORN
-    ∷ on (counts 4_000_000_000 0 (opened 1 0 ∷ [])) (zeros 16) (Call.Start 0 refused BUSY ∷ [])  -- WORN
-    ∷ on fourPlaces taken (idleNext ++ spoiledNext ++ heldNext)
-    ∷ on three beyond keyNext
-    ∷ on fourPlaces taken ownLast
     ∷ []
 
 -- THE LIST
@@ -244,7 +158,8 @@ checkRows =
     lastStarts
     ++ on (counts 4_000_000_000 3_999_999_999 (opened 4_000_000_000 3_999_999_999 ∷ [])) (zeros 16) lastOfAll
     ∷ on three (zeros 16) (atIdle ++ atOpen ++ atSpoiled ++ atPrepared ++ placesUpTo15 ++ keysUpTo255)
-    ∷ order
+    ∷ on fourPlaces taken onTaken
+    ∷ []
 
 -- every call is answered as said
 abbrev pub ChecksHold : Type 0
