@@ -211,7 +211,7 @@ module _ (n : ℕ) (h : 0 < n) (l : n ≤ mostCells) where
         rw x (refuses (s .board) (s .words) (ledger before) (s .shape) (s .linked) p k new r)
 
     -- the last board holds, for each key, what the committed ones leave in commit order
-    pub final : LastHolds hs (fromFresh n calls .board) (fromFresh n calls .words)
+    pub final : LastHolds hs (fromFresh n calls .words)
     final k = board-holds (fromFresh n calls .board) (cellsOf (fromFresh n calls .words)) (ledger hs) (at-end .linked) k
 
 pub demand3 : Statement
