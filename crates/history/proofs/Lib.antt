@@ -1,5 +1,5 @@
 -- Laws by subject, then the theorems: Demand (demand3), Judge (all-right, full-right, decided), Axioms (snapshot-isolation),
--- Examples, and Bytes (desk-tells, serve-tells).
+-- Examples, and Bytes (desk-tells, serve-tells, desk-only).
 pub mod Basics
 pub mod Facts
 pub mod Leave
@@ -16,4 +16,5 @@ pub mod Judge
 pub mod Axioms
 pub mod Examples
 pub mod Small
+pub mod Runs
 pub mod Bytes
