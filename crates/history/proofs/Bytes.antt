@@ -9,7 +9,7 @@ use mathlib.Core.List.{List, [], _∷_, _++_, map, append-assoc}
 use Prim.Native.Nat.{ℕ, zero, suc, _+_, _*_, _^_, _≤_, _<_}
 use native.Mathlib.Nat.{le-of-suc-le-suc, not-suc-le-zero}
 use native.Mathlib.Omega.{arith}
-use lib.Dec.{eqb, ltb}
+use lib.Dec.{eqb}
 use lib.ListN.{length, getD, take, drop, length-append, length-map, List·getD-map, take-append-drop}
 use lib.Seq.{take-at, drop-at, drop-drop, drop-append-add, split-at, getD-take, length-take-le}
 use borrow.Author.Tests.{ltb-true, ltb-false, lt-ltb, eqb-true, not-false}
@@ -23,16 +23,15 @@ use Rattle.records.specs.Format.{callBytes, answerBytes, goesIn, keyOf, newValu
 use Rattle.records.specs.Format.{callIn, callAt, answerIn, answerAt, putAt}
 use Rattle.records.proofs.RoundTrip.{calls, answers}
 use Rattle.cells.specs.Cells.{wordsOf}
-use Rattle.steps.specs.declared.Board.{Board}
 use Rattle.steps.specs.Record.{mostCells, freshBoard, freshWords}
-use Rattle.steps.proofs.Tests.{and-both as both, and-left, and-right, two}
+use Rattle.steps.proofs.Tests.{and-both as both, and-left, and-right}
 use Rattle.lanes.specs.Serve.{noCall, readThen, callsIn, runOf, recordsOf, wholeCalls, tried, serveFirst, serveOf}
 use Rattle.lanes.specs.Desk.{answersTo, deskWords, deskOf}
 use Rattle.lanes.proofs.Replies.{answer-back}
 use Rattle.history.specs.History.{Pair, ledger, emptyWords, fromFresh}
 use Rattle.history.specs.Verdict.{Answers, verdict}
-use Rattle.history.specs.Bytes.{noPair, AnswerIs, Tells, inputCalls, bytesLeft, DeskTells, DeskPromise, DeskOnly, DeskSpeaks}
-use Rattle.history.specs.Bytes.{triedCalls, metNoCall, ServeTells, ServePromise, ServeSpeaks}
+use Rattle.history.specs.Bytes.{noPair, AnswerIs, Tells, inputCalls, bytesLeft, DeskPromise, DeskOnly, DeskSpeaks}
+use Rattle.history.specs.Bytes.{triedCalls, metNoCall, ServePromise, ServeSpeaks}
 use Rattle.history.proofs.Basics.{cases, lt?}
 use Rattle.history.proofs.Demand.{at, demand3}
 use Rattle.history.proofs.Judge.{all-right}

@@ -10,10 +10,9 @@ use Prim.Native.Nat.{ℕ, zero, suc, _≤_, _<_}
 use native.Mathlib.Omega.{arith}
 use lib.ListN.{length}
 use Rattle.records.specs.declared.Call.{Call}
-use Rattle.records.specs.declared.Answer.{Answer}
 use Rattle.records.specs.declared.CallRead.{CallRead}
 use Rattle.steps.specs.declared.Board.{Board}
-use Rattle.steps.specs.Record.{allPlaces, mostCells, freshBoard}
+use Rattle.steps.specs.Record.{allPlaces, freshBoard}
 use Rattle.steps.specs.Step.{Outcome, step}
 use Rattle.steps.proofs.Keeps.{keeps-lengths}
 use Rattle.history.specs.History.{Pair, answeredBy, Play, emptyWords, run, fromFresh, Demand3}
@@ -21,20 +20,20 @@ use Rattle.history.proofs.Basics.{cases}
 use Rattle.history.proofs.Demand.{demand3}
 use Rattle.history.proofs.Judge.{all-right, full-right}
 use Rattle.lane_c.specs.Words.{recordOf, wordsOfRecord}
-use Rattle.lane_c.specs.Call.{callNamed, Crossed, refusedWith, outcomeWords, stepOnWords, onNamed, laneCall}
+use Rattle.lane_c.specs.Call.{callNamed, Crossed, onNamed, laneCall}
 use Rattle.lane_c.proofs.Words.{record-words}
 use Rattle.lane_c.proofs.Kept.{step-on}
 use Rattle.hosts.specs.Calls.{Asked, Got, Called, callsOn, callsFromZeros, callAsked, namedThen, callsAsked, pairThen, pairsGot, playOf}
-use Rattle.hosts.specs.Calls.{CallsTell, CallsPromise, NoKind, NoKindNothing, CallsRight, CallsFull}
+use Rattle.hosts.specs.Calls.{CallsPromise, NoKind, NoKindNothing, CallsRight, CallsFull}
 use Rattle.hosts.proofs.Fresh.{zero-record, zero-cells, run-full}
 
 -- THE SAME PAIRS, RECORD AND CELLS
 
 -- lane_calls came to what a run of calls comes to
-record Same (hs : List Pair) (ws cs : List ℕ) (p : Play) : Type 0 where
-  pairs : hs ≡ p .pairs
-  words : ws ≡ wordsOfRecord (p .board)
-  cells : cs ≡ p .words
+pub record Same (hs : List Pair) (ws cs : List ℕ) (p : Play) : Type 0 where
+  pub pairs : hs ≡ p .pairs
+  pub words : ws ≡ wordsOfRecord (p .board)
+  pub cells : cs ≡ p .words
 
 -- as it stands behind one that gave x
 abbrev Behind : CallRead → List Asked → Asked → Crossed → Play → Type 0
@@ -60,7 +59,7 @@ module _ (a : Asked) (more : List Asked)
       })
   one CallRead.Record b cs full = later b cs full
 
-same : (asked : List Asked) (b : Board) (cs : List ℕ) → length (b .places) ≡ allPlaces
+pub same : (asked : List Asked) (b : Board) (cs : List ℕ) → length (b .places) ≡ allPlaces
     → Same (pairsGot (callsOn (wordsOfRecord b) cs asked .got)) (callsOn (wordsOfRecord b) cs asked .words) (callsOn (wordsOfRecord b) cs asked .cells)
     (run b cs (callsAsked asked))
 unfolding callsOn callsAsked pairsGot run laneCall

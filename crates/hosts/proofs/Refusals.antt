@@ -2,24 +2,24 @@
 --     refusal-leaves-all     a refusal leaves every word as it was, but for CONFLICT's one state word
 --     from-the-list          the number is one of the list
 -- Assumes nothing.
-use mathlib.Core.Path.{_≡_, refl, sym, ap, _∙_, subst}
-use mathlib.Core.Bool.{Bool, true, false}
+use mathlib.Core.Path.{_≡_, refl, ap, _∙_}
+use mathlib.Core.Bool.{true}
 use mathlib.Core.List.{List, [], _∷_}
 use Prim.Native.Nat.{ℕ, zero, suc, _≤_}
 use native.Mathlib.Omega.{arith}
-use lib.ListN.{length, getD, set}
+use lib.ListN.{getD, set}
 use Rattle.records.specs.declared.Answer.{Answer}
 use Rattle.records.specs.declared.Call.{Call}
 use Rattle.records.specs.declared.CallRead.{CallRead}
 use Rattle.records.specs.Answers.{numberOf, valueOf, placeOf}
 use Rattle.steps.specs.declared.State.{State}
 use Rattle.steps.specs.declared.Board.{Board}
-use Rattle.steps.specs.Record.{idlePlace, placeAt}
-use Rattle.steps.specs.Step.{Outcome, withPlace, inState, step}
+use Rattle.steps.specs.Record.{placeAt}
+use Rattle.steps.specs.Step.{withPlace, inState, step}
 use Rattle.steps.proofs.Tests.{by-test}
 use Rattle.steps.proofs.Refusals.{ChangesNothing, refusal-changes-nothing}
 use Rattle.steps.proofs.Exact.{never-above}
-use Rattle.lane_c.specs.Words.{stateWordAt, stateWord, placesOf, wordsOfPlaces, recordOf, wordsOfRecord, wellFormed}
+use Rattle.lane_c.specs.Words.{stateWordAt, stateWord, recordOf, wordsOfRecord, wellFormed}
 use Rattle.lane_c.specs.Call.{callNamed, Crossed, refusedWith, outcomeWords, stepOnWords, onNamed, laneCall}
 use Rattle.lane_c.proofs.Words.{open-inside, open-word, state-set, words-record}
 use Rattle.hosts.specs.Refusals.{LeavesAll, RefusalLeavesAll, FromTheList}

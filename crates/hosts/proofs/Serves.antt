@@ -24,11 +24,11 @@ use Rattle.history.proofs.Demand.{demand3}
 use Rattle.history.proofs.Runs.{noStart, replyOf, run-replies, run-board, run-words, run-length, run-call, run-append}
 use Rattle.history.proofs.Bytes.{calls-stand, calls-end, stands-fit, recordIf, Recorded, told, recorded, front}
 use Rattle.lane_c.specs.Words.{recordOf, wordsOfRecord}
-use Rattle.lane_c.specs.Serve.{whyOf, whyBoard, Handed, servingWords, laneServe}
+use Rattle.lane_c.specs.Serve.{whyOf, whyBoard, Handed, servingWords}
 use Rattle.lane_c.proofs.Words.{record-words}
 use Rattle.lane_c.proofs.Kept.{serve-on}
 use Rattle.hosts.specs.Serves.{Lent, serveOn, Held, servesOn, servesFromZeros, callsTried, callsLent, historyOf, partOf}
-use Rattle.hosts.specs.Serves.{ServedTells, ServesTell, ServesPromise}
+use Rattle.hosts.specs.Serves.{ServedTells, ServesPromise}
 use Rattle.hosts.proofs.Fresh.{zero-record, zero-cells, run-full}
 
 -- THE LAST WORDS
@@ -38,13 +38,21 @@ abbrev heldBy : Play → Held
 heldBy p = record { words = wordsOfRecord (p .board); cells = p .words }
 
 -- serving on a record leaves the record and the words of its run
-served-board : (b : Board) (cs : List ℕ) (l : Lent) → serveInto b cs (l .calls) (l .answers) .board ≡ run b cs (callsTried l) .board
+pub served-board : (b : Board) (cs : List ℕ) (l : Lent) → serveInto b cs (l .calls) (l .answers) .board ≡ run b cs (callsTried l) .board
 unfolding serveOf serveFirst
 served-board b cs l = run-board (callsTried l) b cs
 
-served-words : (b : Board) (cs : List ℕ) (l : Lent) → serveInto b cs (l .calls) (l .answers) .words ≡ run b cs (callsTried l) .words
+pub served-words : (b : Board) (cs : List ℕ) (l : Lent) → serveInto b cs (l .calls) (l .answers) .words ≡ run b cs (callsTried l) .words
 unfolding serveOf serveFirst
 served-words b cs l = run-words (callsTried l) b cs
+
+-- and writes the answers of its run
+pub served-bytes : (b : Board) (cs : List ℕ) (l : Lent)
+    → take (serveInto b cs (l .calls) (l .answers) .written) (serveInto b cs (l .calls) (l .answers) .answers)
+    ≡ recordsOf (runOf b cs (callsTried l) .replies) ++ recordIf (metNoCall (l .calls) (length (l .answers)))
+unfolding serveOf serveFirst
+served-bytes b cs l =
+    front (l .answers) (recordsOf (runOf b cs (callsTried l) .replies) ++ recordIf (metNoCall (l .calls) (length (l .answers))))
 
 all-held : (lent : List Lent) (b : Board) (cs : List ℕ) → length (b .places) ≡ allPlaces
     → servesOn (wordsOfRecord b) cs lent ≡ heldBy (run b cs (callsLent lent))
@@ -157,9 +165,8 @@ module _ (n : ℕ) (h : 0 < n) (m : n ≤ mostCells) (lent before after : List L
   met = metNoCall (l .calls) (length (l .answers))
 
   own-bytes : take (serving .written) (serving .answers) ≡ recordsOf (map replyOf (own .pairs)) ++ recordIf met
-  unfolding serveOf serveFirst
   own-bytes =
-      front (l .answers) (recordsOf (runOf (first .board) (first .words) (callsTried l) .replies) ++ recordIf met)
+      served-bytes (first .board) (first .words) l
       ∙ ap (λ (rs : List Reply). recordsOf rs ++ recordIf met) (run-replies (callsTried l) (first .board) (first .words))
 
   took : serving .taken ≡ callBytes * length (callsTried l)

@@ -7,12 +7,12 @@ use Prim.Native.Nat.{ℕ, _*_, _≤_, _<_}
 use Rattle.records.specs.declared.Call.{Call}
 use Rattle.records.specs.declared.Answer.{Answer}
 use Rattle.records.specs.declared.CallRead.{CallRead}
-use Rattle.records.specs.Answers.{numberOf, valueOf}
+use Rattle.records.specs.Answers.{numberOf}
 use Rattle.steps.specs.Record.{mostCells, freshWords}
 use Rattle.history.specs.History.{Pair, answeredBy, Play, ledger, fromFresh, Demand3}
 use Rattle.history.specs.Verdict.{NeedsCell, Packed, Right}
 use Rattle.lane_c.specs.Words.{recordWords, recordOf, wordsOfRecord}
-use Rattle.lane_c.specs.Call.{callNamed, Crossed, refusedWith, laneCall}
+use Rattle.lane_c.specs.Call.{callNamed, Crossed, laneCall}
 
 -- WHAT A HOST DOES
 
