@@ -8,6 +8,7 @@ pub mod Seen
 pub mod Write
 pub mod Turn
 pub mod Close
+pub mod Timed
 pub mod Fair
 pub mod Steps
 pub mod Demand
