@@ -13,7 +13,7 @@ use borrow.Author.Tests.{ltb-true}
 use Rattle.records.specs.declared.Call.{Call}
 use Rattle.records.specs.declared.CallRead.{CallRead}
 use Rattle.records.specs.declared.Reply.{Reply}
-use Rattle.records.specs.Format.{callBytes, callFits, callAt}
+use Rattle.records.specs.Format.{callBytes, callFits, callAt, putAt}
 use Rattle.steps.specs.declared.Board.{Board}
 use Rattle.steps.specs.Record.{allPlaces, mostCells, freshBoard}
 use Rattle.lanes.specs.declared.Stop.{Stop}
@@ -53,6 +53,18 @@ pub served-bytes : (b : Board) (cs : List ℕ) (l : Lent)
 unfolding serveOf serveFirst
 served-bytes b cs l =
     front (l .answers) (recordsOf (runOf b cs (callsTried l) .replies) ++ recordIf (metNoCall (l .calls) (length (l .answers))))
+
+-- and leaves the bytes past them
+past-answers : (bs rec : List ℕ) → drop (length rec) (putAt bs 0 rec) ≡ drop (length rec) bs
+unfolding putAt
+past-answers bs rec =
+    let e : 0 + length rec ≡ length rec = omega arith in
+    drop-at rec (drop (0 + length rec) bs) (length rec) refl ∙ ap (λ (k : ℕ). drop k bs) e
+
+served-past : (b : Board) (cs : List ℕ) (l : Lent)
+    → drop (serveInto b cs (l .calls) (l .answers) .written) (serveInto b cs (l .calls) (l .answers) .answers)
+    ≡ drop (serveInto b cs (l .calls) (l .answers) .written) (l .answers)
+served-past b cs l = past-answers (l .answers) (serveOf b cs (l .calls) (length (l .answers)) .answers)
 
 all-held : (lent : List Lent) (b : Board) (cs : List ℕ) → length (b .places) ≡ allPlaces
     → servesOn (wordsOfRecord b) cs lent ≡ heldBy (run b cs (callsLent lent))
@@ -181,6 +193,7 @@ module _ (n : ℕ) (h : 0 < n) (m : n ≤ mostCells) (lent before after : List L
       (record {
         tells = subst (λ (ps : List Pair). Tells ps (l .calls) bytes met) own-part (told (own .pairs) (l .calls) bytes met read has own-bytes);
         last = λ t. calls-end records (l .calls) .1 (ltb-true (length (callsTried l)) records t);
+        kept = served-past (first .board) (first .words) l;
         taken = took;
         board = a-record (serving .stop);
       })

@@ -59,11 +59,12 @@ abbrev pub partOf : List Pair → List Lent → Lent → List Pair
 partOf hs before l = take (length (callsTried l)) (drop (length (callsLent before)) hs)
 
 -- what one lane_serve handed back, behind others, tells its part of the history: in the answers written, with RECORD behind where it met
--- bytes that are no call. It took the bytes of those calls; and it never found the words to be no record
+-- bytes that are no call. It left the lent bytes past those, it took the bytes of those calls, and it never found the words to be no record
 pub record ServedTells (hs : List Pair) (before : List Lent) (l : Lent) (x : Handed) : Type 0 where
   pub tells : Tells (partOf hs before l) (l .calls) (take (x .written) (x .answers)) (metNoCall (l .calls) (length (l .answers)))
   pub last : metNoCall (l .calls) (length (l .answers)) ≡ true
       → callAt (l .calls) (callBytes * length (callsTried l)) ≡ CallRead.Record
+  pub kept : drop (x .written) (x .answers) ≡ drop (x .written) (l .answers)
   pub taken : x .taken ≡ callBytes * length (callsTried l)
   pub board : x .why ≡ whyBoard → ⊥
 
