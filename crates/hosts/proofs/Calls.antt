@@ -7,8 +7,9 @@ use mathlib.Core.Path.{_≡_, refl, sym, ap, _∙_, subst}
 use mathlib.Core.Logic.{_⊎_, _↔_, inl, inr}
 use mathlib.Core.List.{List, [], _∷_, map}
 use Prim.Native.Nat.{ℕ, zero, suc, _≤_, _<_}
+use native.Mathlib.Nat.{le-of-suc-le-suc, not-suc-le-zero}
 use native.Mathlib.Omega.{arith}
-use lib.ListN.{length}
+use lib.ListN.{length, getD}
 use Rattle.records.specs.declared.Call.{Call}
 use Rattle.records.specs.declared.CallRead.{CallRead}
 use Rattle.steps.specs.declared.Board.{Board}
@@ -24,7 +25,7 @@ use Rattle.lane_c.specs.Call.{callNamed, Crossed, onNamed, laneCall}
 use Rattle.lane_c.proofs.Words.{record-words}
 use Rattle.lane_c.proofs.Kept.{step-on}
 use Rattle.hosts.specs.Calls.{Asked, Got, Called, callsOn, callsFromZeros, callAsked, namedThen, callsAsked, pairThen, pairsGot, playOf}
-use Rattle.hosts.specs.Calls.{CallsPromise, NoKind, NoKindNothing, CallsRight, CallsFull}
+use Rattle.hosts.specs.Calls.{nothingGot, GotRecord, CallsPromise, NoKind, NoKindNothing, CallsRight, CallsFull}
 use Rattle.hosts.proofs.Fresh.{zero-record, zero-cells, run-full}
 
 -- THE SAME PAIRS, RECORD AND CELLS
@@ -35,33 +36,32 @@ pub record Same (hs : List Pair) (ws cs : List ℕ) (p : Play) : Type 0 where
   pub words : ws ≡ wordsOfRecord (p .board)
   pub cells : cs ≡ p .words
 
--- as it stands behind one that gave x
+-- on the words of a record
+abbrev pub AsRun : List Asked → Type 0
+AsRun asked = (b : Board) (cs : List ℕ) → length (b .places) ≡ allPlaces
+    → let r : Called = callsOn (wordsOfRecord b) cs asked in Same (pairsGot (r .got)) (r .words) (r .cells) (run b cs (callsAsked asked))
+
+-- one that gave x, and then others
 abbrev Behind : CallRead → List Asked → Asked → Crossed → Play → Type 0
 Behind read more a x p =
-    Same (pairThen read (record { asked = a; number = x .number; value = x .value }) (pairsGot (callsOn (x .words) (x .cells) more .got)))
-    (callsOn (x .words) (x .cells) more .words) (callsOn (x .words) (x .cells) more .cells) p
+    let r : Called = callsOn (x .words) (x .cells) more in
+    Same (pairThen read (record { asked = a; number = x .number; value = x .value }) (pairsGot (r .got))) (r .words) (r .cells) p
 
-module _ (a : Asked) (more : List Asked)
-    (later : (b : Board) (cs : List ℕ) → length (b .places) ≡ allPlaces
-    → Same (pairsGot (callsOn (wordsOfRecord b) cs more .got)) (callsOn (wordsOfRecord b) cs more .words) (callsOn (wordsOfRecord b) cs more .cells)
-    (run b cs (callsAsked more))) where
-  one : (read : CallRead) (b : Board) (cs : List ℕ) → length (b .places) ≡ allPlaces
-      → Behind read more a (onNamed read (wordsOfRecord b) cs) (run b cs (namedThen read (callsAsked more)))
-  unfolding run
-  one (CallRead.Good call) b cs full =
-      let o : Outcome = step b cs call in
-      let s = later (o .board) (o .words) (keeps-lengths b cs call .1 ∙ full) in
-      subst (λ (x : Crossed). Behind (CallRead.Good call) more a x (run b cs (call ∷ callsAsked more))) (sym (step-on b cs full call))
-      (record {
-        pairs = ap (λ (hs : List Pair). answeredBy call (o .number) (o .value) ∷ hs) (s .pairs);
-        words = s .words;
-        cells = s .cells;
-      })
-  one CallRead.Record b cs full = later b cs full
+one : (a : Asked) (more : List Asked) → AsRun more → (read : CallRead) (b : Board) (cs : List ℕ) → length (b .places) ≡ allPlaces
+    → Behind read more a (onNamed read (wordsOfRecord b) cs) (run b cs (namedThen read (callsAsked more)))
+unfolding run
+one a more later (CallRead.Good call) b cs full =
+    let o : Outcome = step b cs call in
+    let s = later (o .board) (o .words) (keeps-lengths b cs call .1 ∙ full) in
+    subst (λ (x : Crossed). Behind (CallRead.Good call) more a x (run b cs (call ∷ callsAsked more))) (sym (step-on b cs full call))
+    (record {
+      pairs = ap (λ (hs : List Pair). answeredBy call (o .number) (o .value) ∷ hs) (s .pairs);
+      words = s .words;
+      cells = s .cells;
+    })
+one a more later CallRead.Record b cs full = later b cs full
 
-pub same : (asked : List Asked) (b : Board) (cs : List ℕ) → length (b .places) ≡ allPlaces
-    → Same (pairsGot (callsOn (wordsOfRecord b) cs asked .got)) (callsOn (wordsOfRecord b) cs asked .words) (callsOn (wordsOfRecord b) cs asked .cells)
-    (run b cs (callsAsked asked))
+pub same : (asked : List Asked) → AsRun asked
 unfolding callsOn callsAsked pairsGot run laneCall
 same [] b cs full = record { pairs = refl; words = refl; cells = refl }
 same (a ∷ more) b cs full = one a more (same more) (callAsked a) b cs full
@@ -70,6 +70,19 @@ each-asked : (asked : List Asked) (ws cs : List ℕ) → map (λ (g : Got). g .a
 unfolding callsOn
 each-asked [] ws cs = refl
 each-asked (a ∷ more) ws cs = ap (λ (l : List Asked). a ∷ l) (each-asked more _ _)
+
+-- A KIND THAT NAMES NO CALL
+
+pub no-kind-nothing : NoKindNothing
+unfolding laneCall
+no-kind-nothing ws cs a e = ap (λ (read : CallRead). onNamed read ws cs) e
+
+got-record : (asked : List Asked) (ws cs : List ℕ) (i : ℕ) → i < length asked → GotRecord (getD (callsOn ws cs asked .got) i nothingGot)
+unfolding callsOn
+got-record [] ws cs i h = absurd (not-suc-le-zero h)
+got-record (a ∷ more) ws cs zero h =
+    λ e. let x = no-kind-nothing ws cs a e in (ap (λ (c : Crossed). c .number) x, ap (λ (c : Crossed). c .value) x)
+got-record (a ∷ more) ws cs (suc i) h = got-record more _ _ i (le-of-suc-le-suc h)
 
 -- FROM ZERO WORDS
 module _ (n : ℕ) (asked : List Asked) where
@@ -96,9 +109,10 @@ calls-tell n h l asked =
       history = fresh-play n asked;
       words = fresh-words n asked;
       demand3 = subst Demand3 (sym (fresh-play n asked)) (demand3 n h l (callsAsked asked));
+      others = got-record asked _ _;
     }
 
--- WHAT IS LEFT OUT
+-- WHICH KINDS THESE ARE
 
 is-named : {A : Type 0} (call : Call) → CallRead.Good call ≡ CallRead.Record → A
 is-named call e = absurd (let z : _≡_ {A = ℕ} 0 1 = cc in omega arith)
@@ -118,10 +132,6 @@ no-kind a = go (a .kind)
     go (suc (suc (suc (suc (suc zero))))) = (is-named (Call.Commit (a .place)), is-kind 5 (omega arith) (omega arith))
     go (suc (suc (suc (suc (suc (suc zero)))))) = (is-named (Call.Rollback (a .place)), is-kind 6 (omega arith) (omega arith))
     go (suc (suc (suc (suc (suc (suc (suc kind))))))) = (λ _. inr (omega arith), λ _. refl)
-
-pub no-kind-nothing : NoKindNothing
-unfolding laneCall
-no-kind-nothing ws cs a e = ap (λ (read : CallRead). onNamed read ws cs) e
 
 -- EVERY ANSWER
 

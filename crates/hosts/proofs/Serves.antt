@@ -1,4 +1,7 @@
 -- Any sequence of `lane_serve`s from zero words tells the history of the calls tried.
+--     served-..       what serving on a record leaves and writes
+--     held            what all of them leave
+--     three           a history in three parts: before one lane_serve, its own, and after it
 --     serves-tell     each wrote the answers of its part, and the last words are the record's and the cells'
 -- Assumes nothing.
 use mathlib.Core.Path.{_≡_, refl, sym, ap, _∙_, subst}
@@ -66,6 +69,7 @@ served-past : (b : Board) (cs : List ℕ) (l : Lent)
     ≡ drop (serveInto b cs (l .calls) (l .answers) .written) (l .answers)
 served-past b cs l = past-answers (l .answers) (serveOf b cs (l .calls) (length (l .answers)) .answers)
 
+-- one after another they leave the words of the run of all their calls
 all-held : (lent : List Lent) (b : Board) (cs : List ℕ) → length (b .places) ≡ allPlaces
     → servesOn (wordsOfRecord b) cs lent ≡ heldBy (run b cs (callsLent lent))
 unfolding servesOn callsLent run

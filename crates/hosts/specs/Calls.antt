@@ -4,6 +4,7 @@ use mathlib.Core.Path.{_≡_}
 use mathlib.Core.Logic.{_⊎_, _↔_}
 use mathlib.Core.List.{List, [], _∷_, _++_, map}
 use Prim.Native.Nat.{ℕ, _*_, _≤_, _<_}
+use lib.ListN.{length, getD}
 use Rattle.records.specs.declared.Call.{Call}
 use Rattle.records.specs.declared.Answer.{Answer}
 use Rattle.records.specs.declared.CallRead.{CallRead}
@@ -28,6 +29,10 @@ pub record Got : Type 0 where
   pub asked : Asked
   pub number : ℕ
   pub value : ℕ
+
+-- what stands where nothing was asked
+abbrev pub nothingGot : Got
+nothingGot = record { asked = record { kind = 0; place = 0; key = 0; value = 0 }; number = 0; value = 0 }
 
 -- lane_call with these numbers, on the words of a record and of cells
 abbrev pub callOn : List ℕ → List ℕ → Asked → Crossed
@@ -87,13 +92,18 @@ playOf r = record { pairs = pairsGot (r .got); board = recordOf (r .words); word
 
 -- WHAT IS PROMISED
 
+-- where the kind names no call it got 12 with value 0
+abbrev pub GotRecord : Got → Type 0
+GotRecord g = callAsked (g .asked) ≡ CallRead.Record → (g .number ≡ numberOf Answer.Record) × (g .value ≡ 0)
+
 -- any sequence of lane_calls from zero words tells, kinds that name no call left out, a history on a fresh board of n cells: each call got
--- what it gets there, and the last words are the record's and the cells'; so it has all that demand 3 says
+-- what it gets there, and the last words are the record's and the cells'; so it has all that demand 3 says. Those left out got 12
 pub record CallsTell (n : ℕ) (asked : List Asked) : Type 0 where
   pub each : map (λ (g : Got). g .asked) (callsFromZeros n asked .got) ≡ asked
   pub history : playOf (callsFromZeros n asked) ≡ fromFresh n (callsAsked asked)
   pub words : callsFromZeros n asked .words ≡ wordsOfRecord (fromFresh n (callsAsked asked) .board)
   pub demand3 : Demand3 (playOf (callsFromZeros n asked))
+  pub others : (i : ℕ) → i < length asked → GotRecord (getD (callsFromZeros n asked .got) i nothingGot)
 
 -- for every number of cells from 1 to 1,024
 abbrev pub CallsPromise : Type 0
