@@ -31,6 +31,7 @@ use Rattle.history.proofs.Basics.{none-some}
 use Rattle.history.proofs.Facts.{cellAt}
 use Rattle.history.proofs.Link.{Linked}
 use Rattle.history.proofs.Seen.{board-holds, read-right, conflict-exact}
+use Rattle.history.proofs.Timed.{Timed, fresh-timed, timed-note, timed}
 use Rattle.history.proofs.Fair.{Fair, fresh-fair, overlapped-apart}
 use Rattle.history.proofs.Steps.{step-links, step-fair}
 
@@ -77,12 +78,13 @@ answerOf b ws c = answeredBy c (step b ws c .number) (step b ws c .value)
 abbrev noted : Board → List ℕ → Ledger → Call → Ledger
 noted b ws L c = note L c (step b ws c .number) (step b ws c .value)
 
-there : (cs : List Call) (b : Board) (ws : List ℕ) (L : Ledger) → inShape b (length ws) ≡ true → Linked b (cellsOf ws) L → Fair L
+there : (cs : List Call) (b : Board) (ws : List ℕ) (L : Ledger) → inShape b (length ws) ≡ true → Linked b (cellsOf ws) L → Timed L → Fair L
     → There (run b ws cs .board) (run b ws cs .words) (ledgerFrom L (run b ws cs .pairs))
 unfolding run ledgerFrom
-there [] b ws L s 𝓛 f = record { linked = 𝓛; fair = f }
-there (c ∷ cs) b ws L s 𝓛 f =
-    there cs (step b ws c .board) (step b ws c .words) (noted b ws L c) (keeps-shape b ws c s) (step-links b ws L 𝓛 c s) (step-fair b ws L 𝓛 f c)
+there [] b ws L s 𝓛 t f = record { linked = 𝓛; fair = f }
+there (c ∷ cs) b ws L s 𝓛 t f =
+    there cs (step b ws c .board) (step b ws c .words) (noted b ws L c) (keeps-shape b ws c s) (step-links b ws L 𝓛 c s)
+    (timed-note L t c (step b ws c .number) (step b ws c .value)) (step-fair b ws L 𝓛 t f c)
 
 head-eq : (x y : Pair) (xs ys : List Pair) → x ∷ xs ≡ y ∷ ys → x ≡ y
 head-eq x y xs ys e = cc
@@ -191,7 +193,7 @@ module _ (n : ℕ) (h : 0 < n) (l : n ≤ mostCells) where
     at before after x e = here calls freshBoard (emptyWords n) newLedger (length (emptyWords n)) refl fresh-shape fresh-links before after x e
 
     pub at-end : There (fromFresh n calls .board) (fromFresh n calls .words) (ledger hs)
-    at-end = there calls freshBoard (emptyWords n) newLedger fresh-shape fresh-links fresh-fair
+    at-end = there calls freshBoard (emptyWords n) newLedger fresh-shape fresh-links fresh-timed fresh-fair
 
     -- each read answered shows that transaction's own last write to the key, or else what the first n committed transactions leave
     pub reads : ReadsRight hs
@@ -201,7 +203,7 @@ module _ (n : ℕ) (h : 0 < n) (l : n ≤ mostCells) where
 
     -- no two committed transactions that overlapped wrote the same key
     pub apart : OverlappedApart hs
-    apart = overlapped-apart (ledger hs) (at-end .fair)
+    apart = overlapped-apart (ledger hs) (timed hs) (at-end .fair)
 
     -- an update that gets as far as the conflict test is refused for conflict exactly when the key is contested
     pub conflicts : ConflictsExact hs
@@ -211,7 +213,7 @@ module _ (n : ℕ) (h : 0 < n) (l : n ≤ mostCells) where
         rw x (refuses (s .board) (s .words) (ledger before) (s .shape) (s .linked) p k new r)
 
     -- the last board holds, for each key, what the committed ones leave in commit order
-    pub final : LastHolds hs (fromFresh n calls .board) (fromFresh n calls .words)
+    pub final : LastHolds hs (fromFresh n calls .words)
     final k = board-holds (fromFresh n calls .board) (cellsOf (fromFresh n calls .words)) (ledger hs) (at-end .linked) k
 
 pub demand3 : Statement

@@ -34,6 +34,7 @@ use Rattle.history.proofs.Seen.{open-busy, read-right, contested-confli
 use Rattle.history.proofs.Write.{spent-successor, write-links}
 use Rattle.history.proofs.Turn.{tick-links, read-links, turn-links, start-links}
 use Rattle.history.proofs.Close.{commit-links, rollback-links}
+use Rattle.history.proofs.Timed.{Timed}
 use Rattle.history.proofs.Fair.{Fair, fair-tick, fair-start, fair-turn, fair-read, fair-rollback, fair-write, fair-commit}
 
 -- A REFUSAL BUT CONFLICT LEAVES NO TRACE
@@ -163,7 +164,7 @@ module _ (b : Board) (ws : List ℕ) (L : Ledger) (𝓛 : Linked b (cellsOf ws) 
       on-step (Kept c) b ws c (λ a h. refused c a (λ e. omega arith) (λ e. omega arith)) (done-links c) (keeps-shape b ws c s)
 
   -- FAIR
-  module _ (f : Fair L) where
+  module _ (t : Timed L) (f : Fair L) where
     abbrev StaysFair : Call → Outcome → Type 0
     StaysFair c o = Fair (note L c (o .number) (o .value))
 
@@ -196,7 +197,7 @@ module _ (b : Board) (ws : List ℕ) (L : Ledger) (𝓛 : Linked b (cellsOf ws) 
     done-fair (Call.Read p k) g = read-fair p k (leb-false _ _ (g .place)) (open-of (placeAt b p .state) (g .idle) (g .spoiled) (g .held))
     done-fair (Call.Update p k v) g = update-fair p k v (leb-false _ _ (g .place)) (open-of (placeAt b p .state) (g .idle) (g .spoiled) (g .held))
     done-fair (Call.Prepare p) g = fair-turn L f p State.Prepared (leb-false _ _ (g .place))
-    done-fair (Call.Commit p) g = fair-commit L f p (leb-false _ _ (g .place))
+    done-fair (Call.Commit p) g = fair-commit L f t p (leb-false _ _ (g .place))
     done-fair (Call.Rollback p) g = fair-rollback L f p
 
     pub step-fair : (c : Call) → Fair (note L c (step b ws c .number) (step b ws c .value))

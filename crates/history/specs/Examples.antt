@@ -1,14 +1,15 @@
--- Closed histories: cases 2, 5 and 9 of document 01, and stores that cheat.
+-- Closed histories: cases 2, 5 and 9 of document 01, two transactions that overlapped, and stores that cheat.
 -- Assumes nothing.
 use mathlib.Core.Path.{_≡_}
 use mathlib.Core.Bool.{Bool, true, not, _&&_}
 use mathlib.Core.List.{List, [], _∷_, _++_, map}
+use Prim.Native.Nat.{ℕ}
 use lib.Dec.{eqb}
 use Rattle.records.specs.declared.Call.{Call}
 use Rattle.records.specs.declared.Answer.{Answer}
 use Rattle.records.specs.Answers.{numberOf, valueOf}
 use Rattle.steps.specs.Situations.{Turn, _gives_, Situation, firstCommit}
-use Rattle.history.specs.History.{Pair, answeredBy, Ledger, newLedger, note, ledger, fromFresh}
+use Rattle.history.specs.History.{Pair, answeredBy, Ledger, newLedger, note, ledger, fromFresh, OverlappedApart}
 use Rattle.history.specs.Verdict.{verdict}
 
 -- a call and what comes back, as a pair
@@ -18,6 +19,29 @@ pairOf t = answeredBy (t .call) (numberOf (t .answer)) (valueOf (t .answer))
 -- the situation's history is the one that document 01 tells
 abbrev pub AsTold : Situation → Type 0
 AsTold s = fromFresh (s .cells) (map (λ (t : Turn). t .call) (s .turns)) .pairs ≡ map pairOf (s .turns)
+
+-- TWO THAT OVERLAPPED
+
+-- places 0 and 1 open before either commits. Place 0 writes key 1 and commits, then place 1 writes a key and commits
+abbrev pub writeInTurn : ℕ → List Turn
+writeInTurn key =
+    Call.Update 0 1 3 gives Answer.Ok 0
+    ∷ Call.Commit 0 gives Answer.Ok 1
+    ∷ Call.Update 1 key 4 gives Answer.Ok 0
+    ∷ Call.Commit 1 gives Answer.Ok 2
+    ∷ []
+
+-- the first to commit began first
+abbrev pub firstBeganFirst : ℕ → List Turn
+firstBeganFirst key = Call.Start 0 gives Answer.Ok 1 ∷ Call.Start 1 gives Answer.Ok 2 ∷ writeInTurn key
+
+-- the last to commit began first
+abbrev pub lastBeganFirst : ℕ → List Turn
+lastBeganFirst key = Call.Start 1 gives Answer.Ok 1 ∷ Call.Start 0 gives Answer.Ok 2 ∷ writeInTurn key
+
+-- demand 3 does not allow these answers
+abbrev pub SharedKey : List Turn → Type 0
+SharedKey ts = OverlappedApart (map pairOf ts) → ⊥
 
 -- CHEATS
 
@@ -37,6 +61,10 @@ pub record Cheat : Type 0 where
   pub call : Call
   pub cheating : Answer
   pub right : Answer
+
+-- the history with the cheating answer
+abbrev pub cheated : Cheat → List Pair
+cheated c = map pairOf (c .before) ++ (pairOf (c .call gives c .cheating) ∷ [])
 
 -- nothing was wrong before; the verdict is the right answer, and the cheating one is not
 abbrev pub caught : Cheat → Bool
@@ -130,3 +158,17 @@ feigning =
 -- the list
 abbrev pub cheats : List Cheat
 cheats = viewsAlone ∷ newestAtEachRead ∷ anyOldVersion ∷ firstCellOnly ∷ feigning ∷ []
+
+-- AXIOMS THAT BIND THE STORE
+
+-- a transaction that reads one key twice and is shown two values breaks Int
+abbrev pub twoValues : List Turn
+twoValues = newestAtEachRead .before ++ Call.Read 1 7 gives Answer.Ok 12 ∷ Call.Commit 1 gives Answer.Ok 2 ∷ []
+
+-- one that is shown what nobody wrote breaks Ext
+abbrev pub neverWritten : List Turn
+neverWritten = Call.Start 0 gives Answer.Ok 1 ∷ Call.Read 0 7 gives Answer.Ok 5 ∷ Call.Commit 0 gives Answer.Ok 1 ∷ []
+
+-- and two that overlapped and wrote one key break NoConflict
+abbrev pub oneKey : List Turn
+oneKey = lastBeganFirst 1

@@ -3,7 +3,7 @@
 -- Assumes nothing.
 use mathlib.Core.Path.{_≡_}
 use mathlib.Core.Logic.{_↔_, _⊎_}
-use mathlib.Core.Bool.{Bool, cond}
+use mathlib.Core.Bool.{Bool, cond, _&&_}
 use mathlib.Core.List.{List, [], _∷_, _++_}
 use mathlib.Core.Option.{Option, none, some, Option·getD}
 use Prim.Native.Nat.{ℕ, _+_, _≤_, _<_}
@@ -12,8 +12,9 @@ use lib.ListN.{length, getD, take, replicate}
 use Rattle.records.specs.declared.Call.{Call}
 use Rattle.records.specs.declared.Answer.{Answer}
 use Rattle.records.specs.Answers.{numberOf}
-use Rattle.cells.specs.Cells.{noCell, cellsOf, wordsOf}
-use Rattle.cells.specs.Rules.{newestSeen}
+use Rattle.cells.specs.declared.Cell.{Cell}
+use Rattle.cells.specs.Cells.{noCell, cellsOf, wordsOf, ofKey, committed}
+use Rattle.cells.specs.Rules.{newest}
 use Rattle.steps.specs.declared.State.{State}
 use Rattle.steps.specs.declared.Board.{Board}
 use Rattle.steps.specs.Record.{allPlaces, allKeys, mostCells, freshBoard}
@@ -232,21 +233,24 @@ ConflictsExact hs = (before after : List Pair) (p k new n v : ℕ) → hs ≡ be
     → Reaches (ledger before) p k
     → (n ≡ numberOf Answer.Conflict) ↔ Contested (ledger before) p k
 
--- what a board holds for a key: the value in its committed cell with the greatest commit number that is at most the commit count; if
--- there is none, 0
-abbrev pub holds : Board → List ℕ → ℕ → ℕ
-holds b ws k = newestSeen k (b .commits) (cellsOf ws) .value
+-- a committed cell of the key
+abbrev pub versionOf : ℕ → Cell → Bool
+versionOf k c = ofKey k c && committed c
+
+-- what a board holds for a key: the value in its committed cell with the greatest commit number; if there is none, 0
+abbrev pub holds : List ℕ → ℕ → ℕ
+holds ws k = newest (versionOf k) noCell (cellsOf ws) .value
 
 -- the last board holds, for each key, what the committed ones leave in commit order
-abbrev pub LastHolds : List Pair → Board → List ℕ → Type 0
-LastHolds hs b ws = (k : ℕ) → holds b ws k ≡ leave (ledger hs .past) k
+abbrev pub LastHolds : List Pair → List ℕ → Type 0
+LastHolds hs ws = (k : ℕ) → holds ws k ≡ leave (ledger hs .past) k
 
 -- all four sentences, of what a sequence of calls comes to
 pub record Demand3 (played : Play) : Type 0 where
   pub reads : ReadsRight (played .pairs)
   pub apart : OverlappedApart (played .pairs)
   pub conflicts : ConflictsExact (played .pairs)
-  pub final : LastHolds (played .pairs) (played .board) (played .words)
+  pub final : LastHolds (played .pairs) (played .words)
 
 -- for every number of cells from 1 to 1,024 and every list of calls
 abbrev pub Statement : Type 0
