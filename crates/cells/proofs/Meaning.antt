@@ -5,7 +5,7 @@
 --     has-found, has-none                       the facts of "has a cell" by its answer
 --     some-has, none-has                        the answer by the facts
 --     seen-means, seen-only                     the newest committed cell of the key that a view sees
---     own-found, own-none, own-inside           the lowest own cell of a key, and that it is one of the cells
+--     own-found, own-none                       the lowest own cell of a key
 --     unique                                    one result meets a contract
 -- Assumes nothing.
 use mathlib.Core.Path.{_≡_, refl, sym, ap, _∙_}
@@ -21,9 +21,8 @@ use lib.Dec.{ltb, leb}
 use Rattle.cells.specs.declared.Cell.{Cell}
 use Rattle.cells.specs.declared.Found.{Found}
 use Rattle.cells.specs.declared.Found.the-variants.{At, Nothing}
-use Rattle.cells.specs.Cells.{noCell, cellsOf, countOf, empty, ofKey, committed, seenBy}
+use Rattle.cells.specs.Cells.{noCell, empty, ofKey, committed, seenBy}
 use Rattle.cells.specs.Rules.{pickFound, pickCell, lowestFrom, hasCell, newest, mine, ownAt, visible, newestSeen}
-use Rattle.cells.proofs.Words.{length-cells}
 
 -- each contract says that the result, or the words lent, equal what a definition computes: two that meet it are equal
 pub unique : {A : Type 0} (x a b : A) → a ≡ x → b ≡ x → a ≡ b
@@ -326,6 +325,3 @@ module _ (key number : ℕ) where
   pub own-none : (cs : List Cell) → ownAt key number cs ≡ Nothing → None (mine key number) cs
   unfolding ownAt
   own-none cs e = lowest-none (mine key number) cs e
-
-  pub own-inside : (ws : List ℕ) (i : ℕ) → ownAt key number (cellsOf ws) ≡ At i → i < countOf (length ws)
-  own-inside ws i e = omega (arith, own-found (cellsOf ws) i e .inside, length-cells ws)

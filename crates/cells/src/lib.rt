@@ -164,11 +164,13 @@ pub fn whole(words: usize, most: usize) -> bool
     (words % 4 == 0) & (1 <= words / 4) & (words / 4 <= most)
 }
 
-// The cell of a number
+// The cell of a number; four zeros for a number that no cell has
 pub fn cell_at(cells: &[u32], i: usize) -> Cell
-    requires { ⌜ i < countOf (length (now cells)) ⌝ }
     ensures { λ r. ⌜ r ≡ getD (cellsOf (now (cells .entry))) i noCell ⌝ }
 {
+    if count(cells) <= i {
+        return Cell::none();
+    }
     let w = 4 * i;
     Cell {
         word: cells[w],
@@ -178,11 +180,13 @@ pub fn cell_at(cells: &[u32], i: usize) -> Cell
     }
 }
 
-// One cell is written whole
+// One cell is written whole; for a number that no cell has every word stays
 pub fn put_cell(cells: &mut [u32], i: usize, c: Cell)
-    requires { ⌜ i < countOf (length (now cells)) ⌝ }
     ensures { λ r. ⌜ now (cells .exit) ≡ withCells (now (cells .entry)) (set (cellsOf (now (cells .entry))) i c) ⌝ }
 {
+    if count(cells) <= i {
+        return;
+    }
     let w = 4 * i;
     cells[w] = c.word;
     cells[w + 1] = c.value;
