@@ -23,6 +23,7 @@ use Rattle.cells.specs.declared.Found.{Found}
 use Rattle.cells.specs.declared.Found.the-variants.{At, Nothing}
 use Rattle.cells.specs.Cells.{noCell, empty, ofKey, committed, seenBy}
 use Rattle.cells.specs.Rules.{pickFound, pickCell, lowestFrom, hasCell, newest, mine, ownAt, visible, newestSeen}
+use Rattle.cells.proofs.Tests.{and-left, and-right}
 
 -- each contract says that the result, or the words lent, equal what a definition computes: two that meet it are equal
 pub unique : {A : Type 0} (x a b : A) → a ≡ x → b ≡ x → a ≡ b
@@ -294,20 +295,12 @@ module _ (p : Cell → Bool) where
   newest-only numbered cs r a = newest-same cs r (newest p noCell cs) a (newest-means numbered cs)
 
 -- the two scans by name
-both-left : (a b : Bool) → (a && b) ≡ true → a ≡ true
-both-left true b e = refl
-both-left false b e = e
-
-both-right : (a b : Bool) → (a && b) ≡ true → b ≡ true
-both-right true b e = e
-both-right false b e = absurd (clash e refl)
-
 module _ (key view : ℕ) where
   visible-numbered : (c : Cell) → visible key view c ≡ true → 0 < c .commit
   visible-numbered c e =
-      let seen : seenBy view c ≡ true = both-right (ofKey key c) (seenBy view c) e in
-      let done : committed c ≡ true = both-left (committed c) (leb (c .commit) view) seen in
-      ltb-true 0 (c .commit) (both-right (not (empty c)) (ltb 0 (c .commit)) done)
+      let seen : seenBy view c ≡ true = and-right (ofKey key c) (seenBy view c) e in
+      let done : committed c ≡ true = and-left (committed c) (leb (c .commit) view) seen in
+      ltb-true 0 (c .commit) (and-right (not (empty c)) (ltb 0 (c .commit)) done)
 
   pub seen-means : (cs : List Cell) → NewestIs (visible key view) cs (newestSeen key view cs)
   unfolding newestSeen

@@ -7,8 +7,8 @@ ghost use Rattle.cells.specs.Cells.{noCell, cellsOf, withCells, countOf,
 ghost use Rattle.cells.specs.Cells.{empty, ofKey, committed, own, foreign, seenBy};
 ghost use Rattle.cells.specs.Rules.{foreignWith, hasCell, keeps, lookOf};
 ghost use Rattle.cells.specs.Rules.{foreignOf, clashes, valued, stamped, wiped, newer, between};
-ghost use Rattle.cells.specs.Search.{partOf, partIs, fourHave, NextAt, lowestOf, newestOf, noLook, lookTurn, raised, topsOf, anyCell, upTo};
-ghost use Rattle.cells.specs.Search.{outdatedBy, surpassedIn, heldIn};
+ghost use Rattle.cells.specs.Search.{partOf, partIs, fourHave, NextAt, lowestOf, newestOf, noLook, lookTurn};
+ghost use Rattle.cells.specs.Tables.{raised, topsOf, anyCell, upTo, outdatedBy, surpassedIn, heldIn};
 
 pub struct Cell {
     pub word: u32,
