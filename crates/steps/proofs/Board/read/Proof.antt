@@ -8,7 +8,6 @@ use Rattle.cells.specs.declared.Found.{Found}
 use Rattle.cells.specs.declared.Looked.{Looked}
 use Rattle.cells.specs.Cells.{cellsOf}
 use Rattle.cells.specs.Rules.{ownAt}
-use Rattle.cells.proofs.Meaning.{own-inside}
 use Rattle.steps.specs.Spent.{heldBack}
 use Rattle.steps.specs.Step.{numberAt}
 use Rattle.steps.proofs.Checks.{Passed, passed, refused}
@@ -75,9 +74,7 @@ enum-known-mine : tie.Need-enum-known-mine
 enum-known-mine c = search needs
 
 cell-at-requires : tie.Need-cell-at-requires
-cell-at-requires c κs =
-    let a = c .before .before .before .before .before .before .before .before .before .args in
-    own-inside (a .key) (numberAt (a .t1) (a .place)) (a .cells .now) _ (found c)
+cell-at-requires c κs = search needs
 
 with-requires-2 : tie.Need-with-requires-2
 with-requires-2 c κs = search needs

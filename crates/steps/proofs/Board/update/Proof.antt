@@ -9,11 +9,9 @@ use Rattle.cells.specs.declared.Found.{Found}
 use Rattle.cells.specs.declared.Looked.{Looked}
 use Rattle.cells.specs.Cells.{cellsOf}
 use Rattle.cells.specs.Rules.{ownAt, conflict}
-use Rattle.cells.proofs.Meaning.{own-inside}
 use Rattle.steps.specs.Spent.{reusable}
 use Rattle.steps.specs.Step.{numberAt, viewAt}
 use Rattle.steps.proofs.Checks.{Passed, passed, refused}
-use Rattle.steps.proofs.Spent.{free-inside}
 use Rattle.steps.proofs.Ends.{update-own, update-clash, update-free, update-full}
 use Rattle.steps.proofs.Board.update.Statement.{statement}
 use Rattle.steps.proofs.Board.update.Tie as tie
@@ -77,19 +75,13 @@ enum-known-mine : tie.Need-enum-known-mine
 enum-known-mine c = search needs
 
 cell-at-requires : tie.Need-cell-at-requires
-cell-at-requires c κs =
-    let f = c .before in
-    let a = f .before .before .before .before .before .before .before .before .before .before .args in
-    own-inside (a .key) (numberAt (a .t1) (a .place)) (a .cells .now) _ (found f)
+cell-at-requires c κs = search needs
 
 valued-requires : tie.Need-valued-requires
 valued-requires c κs = search needs
 
 put-cell-requires : tie.Need-put-cell-requires
-put-cell-requires c κs =
-    let f = c .before .before .before .before in
-    let a = f .before .before .before .before .before .before .before .before .before .before .args in
-    own-inside (a .key) (numberAt (a .t1) (a .place)) (a .cells .now) _ (found f)
+put-cell-requires c κs = search needs
 
 with-requires-2 : tie.Need-with-requires-2
 with-requires-2 c κs = search needs
@@ -164,10 +156,7 @@ add-t48 c =
     omega (arith, go (n .before .before .before .before .before) .keyed)
 
 put-cell-requires-2 : tie.Need-put-cell-requires-2
-put-cell-requires-2 c κs =
-    let n = c .before .before .before .before .before .before .before .before in
-    let a = n .before .before .before .before .before .before .before .before .before .args in
-    free-inside (a .t1 .places) (a .cells .now) _ (room (c .before))
+put-cell-requires-2 c κs = search needs
 
 with-requires-5 : tie.Need-with-requires-5
 with-requires-5 c κs = search needs
