@@ -1,4 +1,5 @@
 pub mod Record
+pub mod Store
 pub mod Shape
 pub mod Check
 pub mod Spent

@@ -3,24 +3,24 @@
 use Prim.Native.Nat.{ℕ, _+_}
 use native.Mathlib.Omega.{arith}
 use borrow.Author.Needs.{needs}
-use lib.ListN.{set}
 use Rattle.records.specs.declared.Call.{Call}
 use Rattle.records.specs.declared.Answer.{Answer}
 use Rattle.steps.specs.declared.Board.{Board}
 use Rattle.steps.specs.declared.Place.{Place}
-use Rattle.steps.specs.Step.{answered}
+use Rattle.steps.specs.Record.{withPlace, withCounts}
+use Rattle.steps.specs.Store.{lent, answered}
 use Rattle.steps.proofs.Checks.{Passed, passed, refused}
 use Rattle.steps.proofs.Board.commit.Statement.{statement}
 use Rattle.steps.proofs.Board.commit.Tie as tie
 
 -- no check has refused
 go : (c : tie.Else1)
-    → (let a = c .before .before .before .before .args in Passed (a .t1) (a .cells .now) (Call.Commit (a .place)))
-go c = passed _ _ _ (c .before .before .check .ensures) (c .before .number .ensures) (c .if1 .left)
+    → (let a = c .before .before .before .before .args in Passed (lent (a .t1) (a .cells .now)) (Call.Commit (a .place)))
+go c = passed _ _ (c .before .before .check .ensures) (c .before .number .ensures) (c .if1 .left)
 
 -- the record after it
 abbrev after : Board → ℕ → Place → Board
-after b place p = record { places = set (b .places) place p; starts = b .starts; commits = b .commits + 1 }
+after b place p = withCounts (withPlace b place p) (b .starts) (b .commits + 1)
 
 check-requires : tie.Need-check-requires
 check-requires c κs = search needs
@@ -35,7 +35,7 @@ returns : tie.Need-returns
 returns c =
     let k = c .before .before .before in
     let a = k .before .before .args in
-    refused (a .t1) (a .cells .now) (Call.Commit (a .place)) (k .check .ensures) (c .before .before .number .ensures)
+    refused (lent (a .t1) (a .cells .now)) (Call.Commit (a .place)) (k .check .ensures) (c .before .before .number .ensures)
     (c .before .if1 .taken) (c .with .ensures)
 
 mul-p : tie.Need-mul-p
@@ -72,7 +72,7 @@ returns-2 c =
     let words = c .before .before .before .before .stamp .ensures in
     let place = c .before .idle .ensures in
     go k .is (c .with2 .ensures)
-    (λ j. answered (Answer.Ok (a .t1 .commits + 1)) (after (a .t1) (a .place) (place j)) (words j))
+    (λ j. answered (Answer.Ok (a .t1 .commits + 1)) (lent (after (a .t1) (a .place) (place j)) (words j)))
 
 pub commit-spec : {M : Type 1} → statement M
 commit-spec =

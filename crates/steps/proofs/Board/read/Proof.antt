@@ -9,6 +9,7 @@ use Rattle.cells.specs.declared.Looked.{Looked}
 use Rattle.cells.specs.Cells.{cellsOf}
 use Rattle.cells.specs.Rules.{ownAt}
 use Rattle.cells.proofs.Meaning.{own-inside}
+use Rattle.steps.specs.Store.{lent}
 use Rattle.steps.specs.Spent.{heldBack}
 use Rattle.steps.specs.Step.{numberAt}
 use Rattle.steps.proofs.Checks.{Passed, passed, refused}
@@ -19,8 +20,8 @@ use Rattle.steps.proofs.Board.read.Tie as tie
 
 -- no check has refused
 go : (c : tie.Else1)
-    → (let a = c .before .before .before .before .args in Passed (a .t1) (a .cells .now) (Call.Read (a .place) (a .key)))
-go c = passed _ _ _ (c .before .before .check .ensures) (c .before .number .ensures) (c .if1 .left)
+    → (let a = c .before .before .before .before .args in Passed (lent (a .t1) (a .cells .now)) (Call.Read (a .place) (a .key)))
+go c = passed _ _ (c .before .before .check .ensures) (c .before .number .ensures) (c .if1 .left)
 
 -- an own cell was found, or none
 found : (c : tie.After-known-told)
@@ -59,7 +60,7 @@ returns : tie.Need-returns
 returns c =
     let k = c .before .before .before in
     let a = k .before .before .args in
-    refused (a .t1) (a .cells .now) (Call.Read (a .place) (a .key)) (k .check .ensures) (c .before .before .number .ensures)
+    refused (lent (a .t1) (a .cells .now)) (Call.Read (a .place) (a .key)) (k .check .ensures) (c .before .before .number .ensures)
     (c .before .if1 .taken) (c .with .ensures)
 
 mul-p : tie.Need-mul-p
@@ -88,7 +89,7 @@ returns-2 c =
     let k = f .before .before .before .before .before in
     let a = k .before .before .before .before .args in
     go k .is (c .with2 .ensures)
-    (read-own (a .t1) (a .cells .now) (a .place) (a .key) (found f) (c .before .cell-at .ensures))
+    (read-own (lent (a .t1) (a .cells .now)) (a .place) (a .key) (found f) (c .before .cell-at .ensures))
 
 enum-told : tie.Need-enum-told
 enum-told c = search needs
@@ -105,7 +106,7 @@ returns-3 c =
     let k = n .before .before .before .before in
     let a = k .before .before .before .before .args in
     let held = held-of n (c .before .before .held-back-if .ensures) (c .before .if2 .taken) in
-    go k .is (c .with3 .ensures) (read-held (a .t1) (a .cells .now) (a .place) (a .key) (none n) held)
+    go k .is (c .with3 .ensures) (read-held (lent (a .t1) (a .cells .now)) (a .place) (a .key) (none n) held)
 
 with-requires-4 : tie.Need-with-requires-4
 with-requires-4 c κs = search needs
@@ -117,7 +118,7 @@ returns-4 c =
     let a = k .before .before .before .before .args in
     let held = held-of n (c .before .before .before .held-back-if .ensures) (c .before .before .if2 .left) in
     go k .is (c .with4 .ensures)
-    (read-seen (a .t1) (a .cells .now) (a .place) (a .key) (none n) held (ap (λ (l : Looked). l .newest) (n .before .before .look .ensures)))
+    (read-seen (lent (a .t1) (a .cells .now)) (a .place) (a .key) (none n) held (ap (λ (l : Looked). l .newest) (n .before .before .look .ensures)))
 
 pub read-spec : {M : Type 1} → statement M
 read-spec =

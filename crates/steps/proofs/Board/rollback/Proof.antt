@@ -3,15 +3,16 @@
 use borrow.Author.Needs.{needs}
 use Rattle.records.specs.declared.Call.{Call}
 use Rattle.records.specs.declared.Answer.{Answer}
-use Rattle.steps.specs.Step.{answered, withPlace}
+use Rattle.steps.specs.Record.{withPlace}
+use Rattle.steps.specs.Store.{lent, answered}
 use Rattle.steps.proofs.Checks.{Passed, passed, refused}
 use Rattle.steps.proofs.Board.rollback.Statement.{statement}
 use Rattle.steps.proofs.Board.rollback.Tie as tie
 
 -- no check has refused
 go : (c : tie.Else1)
-    → (let a = c .before .before .before .before .args in Passed (a .t1) (a .cells .now) (Call.Rollback (a .place)))
-go c = passed _ _ _ (c .before .before .check .ensures) (c .before .number .ensures) (c .if1 .left)
+    → (let a = c .before .before .before .before .args in Passed (lent (a .t1) (a .cells .now)) (Call.Rollback (a .place)))
+go c = passed _ _ (c .before .before .check .ensures) (c .before .number .ensures) (c .if1 .left)
 
 check-requires : tie.Need-check-requires
 check-requires c κs = search needs
@@ -26,7 +27,7 @@ returns : tie.Need-returns
 returns c =
     let k = c .before .before .before in
     let a = k .before .before .args in
-    refused (a .t1) (a .cells .now) (Call.Rollback (a .place)) (k .check .ensures) (c .before .before .number .ensures)
+    refused (lent (a .t1) (a .cells .now)) (Call.Rollback (a .place)) (k .check .ensures) (c .before .before .number .ensures)
     (c .before .if1 .taken) (c .with .ensures)
 
 mul-p : tie.Need-mul-p
@@ -59,7 +60,7 @@ returns-2 c =
     let a = k .before .before .before .before .args in
     let words = c .before .before .before .before .wipe .ensures in
     let place = c .before .idle .ensures in
-    go k .is (c .with2 .ensures) (λ j. answered (Answer.Ok 0) (withPlace (a .t1) (a .place) (place j)) (words j))
+    go k .is (c .with2 .ensures) (λ j. answered (Answer.Ok 0) (lent (withPlace (a .t1) (a .place) (place j)) (words j)))
 
 pub rollback-spec : {M : Type 1} → statement M
 rollback-spec =

@@ -10,6 +10,7 @@ use Rattle.cells.specs.declared.Looked.{Looked}
 use Rattle.cells.specs.Cells.{cellsOf}
 use Rattle.cells.specs.Rules.{ownAt, conflict}
 use Rattle.cells.proofs.Meaning.{own-inside}
+use Rattle.steps.specs.Store.{lent}
 use Rattle.steps.specs.Spent.{reusable}
 use Rattle.steps.specs.Step.{numberAt, viewAt}
 use Rattle.steps.proofs.Checks.{Passed, passed, refused}
@@ -20,8 +21,8 @@ use Rattle.steps.proofs.Board.update.Tie as tie
 
 -- no check has refused
 go : (c : tie.Else1)
-    → (let a = c .before .before .before .before .args in Passed (a .t1) (a .cells .now) (Call.Update (a .place) (a .key) (a .value)))
-go c = passed _ _ _ (c .before .before .check .ensures) (c .before .number .ensures) (c .if1 .left)
+    → (let a = c .before .before .before .before .args in Passed (lent (a .t1) (a .cells .now)) (Call.Update (a .place) (a .key) (a .value)))
+go c = passed _ _ (c .before .before .check .ensures) (c .before .number .ensures) (c .if1 .left)
 
 -- an own cell was found, or none
 found : (c : tie.After-known-told)
@@ -61,7 +62,7 @@ returns : tie.Need-returns
 returns c =
     let k = c .before .before .before in
     let a = k .before .before .args in
-    refused (a .t1) (a .cells .now) (Call.Update (a .place) (a .key) (a .value)) (k .check .ensures) (c .before .before .number .ensures)
+    refused (lent (a .t1) (a .cells .now)) (Call.Update (a .place) (a .key) (a .value)) (k .check .ensures) (c .before .before .number .ensures)
     (c .before .if1 .taken) (c .with .ensures)
 
 mul-p : tie.Need-mul-p
@@ -103,7 +104,7 @@ returns-2 c =
     let k = f .before .before .before .before .before .before in
     let a = k .before .before .before .before .args in
     go k .is (c .with2 .ensures)
-    (update-own (a .t1) (a .cells .now) (a .place) (a .key) (a .value) (found f) (c .before .before .before .before .before .before .cell-at .ensures)
+    (update-own (lent (a .t1) (a .cells .now)) (a .place) (a .key) (a .value) (found f) (c .before .before .before .before .before .before .cell-at .ensures)
     (c .before .before .before .before .valued .ensures) (c .before .before .before .put-cell .ensures))
 
 enum-told : tie.Need-enum-told
@@ -131,7 +132,7 @@ returns-3 c =
     let a = k .before .before .before .before .args in
     let clash = sym (ap (λ (l : Looked). l .conflict) (n .before .before .look .ensures)) ∙ c .before .before .if2 .taken in
     go k .is (c .with3 .ensures)
-    (update-clash (a .t1) (a .cells .now) (a .place) (a .key) (a .value) (none n) clash (c .before .in-state .ensures))
+    (update-clash (lent (a .t1) (a .cells .now)) (a .place) (a .key) (a .value) (none n) clash (c .before .in-state .ensures))
 
 reusable-requires : tie.Need-reusable-requires
 reusable-requires c κs = search needs
@@ -156,7 +157,7 @@ returns-4 c =
     let a = k .before .before .before .before .args in
     let full = sym (c .before .before .before .reusable .ensures) ∙ c .before .enum-told2 .given .1 in
     go k .is (c .with4 .ensures)
-    (update-full (a .t1) (a .cells .now) (a .place) (a .key) (a .value) (none n) (clear l) full)
+    (update-full (lent (a .t1) (a .cells .now)) (a .place) (a .key) (a .value) (none n) (clear l) full)
 
 add-t48 : tie.Need-add-t48
 add-t48 c =
@@ -183,7 +184,7 @@ returns-5 c =
     let k = n .before .before .before .before .before in
     let a = k .before .before .before .before .args in
     go k .is (c .with5 .ensures)
-    (update-free (a .t1) (a .cells .now) (a .place) (a .key) (a .value) (none n) (clear l) (room r)
+    (update-free (lent (a .t1) (a .cells .now)) (a .place) (a .key) (a .value) (none n) (clear l) (room r)
     (c .before .before .before .put-cell2 .ensures))
 
 pub update-spec : {M : Type 1} → statement M
