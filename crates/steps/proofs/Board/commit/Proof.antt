@@ -22,15 +22,6 @@ go c = passed _ _ (c .before .before .check .ensures) (c .before .number .ensure
 abbrev after : Board → ℕ → Place → Board
 after b place p = withCounts (withPlace b place p) (b .starts) (b .commits + 1)
 
-check-requires : tie.Need-check-requires
-check-requires c κs = search needs
-
-number-requires : tie.Need-number-requires
-number-requires c κs = search needs
-
-with-requires : tie.Need-with-requires
-with-requires c κs = search needs
-
 returns : tie.Need-returns
 returns c =
     let k = c .before .before .before in
@@ -38,32 +29,14 @@ returns c =
     refused (lent (a .t1) (a .cells .now)) (Call.Commit (a .place)) (k .check .ensures) (c .before .before .number .ensures)
     (c .before .if1 .taken) (c .with .ensures)
 
-mul-p : tie.Need-mul-p
-mul-p c = search needs
-
 element-copy-out-p : tie.Need-element-copy-out-p
 element-copy-out-p c = go c .below
 
 add-commit : tie.Need-add-commit
 add-commit c = omega (arith, go (c .before) .commits)
 
-stamp-requires : tie.Need-stamp-requires
-stamp-requires c κs = search needs
-
-idle-requires : tie.Need-idle-requires
-idle-requires c κs = search needs
-
-mul-t10 : tie.Need-mul-t10
-mul-t10 c = search needs
-
 element-set-from-self : tie.Need-element-set-from-self
 element-set-from-self c = go (c .before .before .before .before .before .before) .below
-
-with-requires-2 : tie.Need-with-requires-2
-with-requires-2 c κs = search needs
-
-same-length : tie.Need-same-length
-same-length c = search needs
 
 returns-2 : tie.Need-returns-2
 returns-2 c =
@@ -78,17 +51,17 @@ pub commit-spec : {M : Type 1} → statement M
 commit-spec =
     tie.close
     (tie.spec
-    check-requires
-    number-requires
-    with-requires
+    (λ c κs. search needs)
+    (λ c κs. search needs)
+    (λ c κs. search needs)
     returns
-    mul-p
+    (λ c. search needs)
     element-copy-out-p
     add-commit
-    stamp-requires
-    idle-requires
-    mul-t10
+    (λ c κs. search needs)
+    (λ c κs. search needs)
+    (λ c. search needs)
     element-set-from-self
-    with-requires-2
-    same-length
+    (λ c κs. search needs)
+    (λ c. search needs)
     returns-2)

@@ -14,15 +14,6 @@ go : (c : tie.Else1)
     → (let a = c .before .before .before .before .args in Passed (lent (a .t1) (a .cells .now)) (Call.Prepare (a .place)))
 go c = passed _ _ (c .before .before .check .ensures) (c .before .number .ensures) (c .if1 .left)
 
-check-requires : tie.Need-check-requires
-check-requires c κs = search needs
-
-number-requires : tie.Need-number-requires
-number-requires c κs = search needs
-
-with-requires : tie.Need-with-requires
-with-requires c κs = search needs
-
 returns : tie.Need-returns
 returns c =
     let k = c .before .before .before in
@@ -30,23 +21,11 @@ returns c =
     refused (lent (a .t1) (a .cells .now)) (Call.Prepare (a .place)) (k .check .ensures) (c .before .before .number .ensures)
     (c .before .if1 .taken) (c .with .ensures)
 
-mul-p : tie.Need-mul-p
-mul-p c = search needs
-
 element-copy-out-p : tie.Need-element-copy-out-p
 element-copy-out-p c = go c .below
 
-in-state-requires : tie.Need-in-state-requires
-in-state-requires c κs = search needs
-
-mul-t9 : tie.Need-mul-t9
-mul-t9 c = search needs
-
 element-set-from-self : tie.Need-element-set-from-self
 element-set-from-self c = go (c .before .before) .below
-
-with-requires-2 : tie.Need-with-requires-2
-with-requires-2 c κs = search needs
 
 returns-2 : tie.Need-returns-2
 returns-2 c =
@@ -59,14 +38,14 @@ pub prepare-spec : {M : Type 1} → statement M
 prepare-spec =
     tie.close
     (tie.spec
-    check-requires
-    number-requires
-    with-requires
+    (λ c κs. search needs)
+    (λ c κs. search needs)
+    (λ c κs. search needs)
     returns
-    mul-p
+    (λ c. search needs)
     element-copy-out-p
-    in-state-requires
-    mul-t9
+    (λ c κs. search needs)
+    (λ c. search needs)
     element-set-from-self
-    with-requires-2
+    (λ c κs. search needs)
     returns-2)

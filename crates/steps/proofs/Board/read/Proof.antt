@@ -47,15 +47,6 @@ held-of n e f =
     let seen = ap (λ (l : Looked). l .foreign && held) (n .before .before .look .ensures) in
     sym (held-if (a .key) (numberAt (a .t1) (a .place)) (a .t1 .places) cs) ∙ sym seen ∙ sym e ∙ f
 
-check-requires : tie.Need-check-requires
-check-requires c κs = search needs
-
-number-requires : tie.Need-number-requires
-number-requires c κs = search needs
-
-with-requires : tie.Need-with-requires
-with-requires c κs = search needs
-
 returns : tie.Need-returns
 returns c =
     let k = c .before .before .before in
@@ -63,25 +54,13 @@ returns c =
     refused (lent (a .t1) (a .cells .now)) (Call.Read (a .place) (a .key)) (k .check .ensures) (c .before .before .number .ensures)
     (c .before .if1 .taken) (c .with .ensures)
 
-mul-p : tie.Need-mul-p
-mul-p c = search needs
-
 element-copy-out-p : tie.Need-element-copy-out-p
 element-copy-out-p c = go c .below
-
-look-requires : tie.Need-look-requires
-look-requires c κs = search needs
-
-enum-known-mine : tie.Need-enum-known-mine
-enum-known-mine c = search needs
 
 cell-at-requires : tie.Need-cell-at-requires
 cell-at-requires c κs =
     let a = c .before .before .before .before .before .before .before .before .before .args in
     own-inside (a .key) (numberAt (a .t1) (a .place)) (a .cells .now) _ (found c)
-
-with-requires-2 : tie.Need-with-requires-2
-with-requires-2 c κs = search needs
 
 returns-2 : tie.Need-returns-2
 returns-2 c =
@@ -91,15 +70,6 @@ returns-2 c =
     go k .is (c .with2 .ensures)
     (read-own (lent (a .t1) (a .cells .now)) (a .place) (a .key) (found f) (c .before .cell-at .ensures))
 
-enum-told : tie.Need-enum-told
-enum-told c = search needs
-
-held-back-if-requires : tie.Need-held-back-if-requires
-held-back-if-requires c κs = search needs
-
-with-requires-3 : tie.Need-with-requires-3
-with-requires-3 c κs = search needs
-
 returns-3 : tie.Need-returns-3
 returns-3 c =
     let n = c .before .before .before .before in
@@ -107,9 +77,6 @@ returns-3 c =
     let a = k .before .before .before .before .args in
     let held = held-of n (c .before .before .held-back-if .ensures) (c .before .if2 .taken) in
     go k .is (c .with3 .ensures) (read-held (lent (a .t1) (a .cells .now)) (a .place) (a .key) (none n) held)
-
-with-requires-4 : tie.Need-with-requires-4
-with-requires-4 c κs = search needs
 
 returns-4 : tie.Need-returns-4
 returns-4 c =
@@ -124,20 +91,20 @@ pub read-spec : {M : Type 1} → statement M
 read-spec =
     tie.close
     (tie.spec
-    check-requires
-    number-requires
-    with-requires
+    (λ c κs. search needs)
+    (λ c κs. search needs)
+    (λ c κs. search needs)
     returns
-    mul-p
+    (λ c. search needs)
     element-copy-out-p
-    look-requires
-    enum-known-mine
+    (λ c κs. search needs)
+    (λ c. search needs)
     cell-at-requires
-    with-requires-2
+    (λ c κs. search needs)
     returns-2
-    enum-told
-    held-back-if-requires
-    with-requires-3
+    (λ c. search needs)
+    (λ c κs. search needs)
+    (λ c κs. search needs)
     returns-3
-    with-requires-4
+    (λ c κs. search needs)
     returns-4)

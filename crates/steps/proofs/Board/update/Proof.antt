@@ -49,15 +49,6 @@ room : (c : tie.After-known-told2)
     reusable (a .t1 .places) (cellsOf (a .cells .now)) ≡ Found.At (c .before .free .given .0 .0))
 room c = sym (c .before .before .before .reusable .ensures) ∙ c .before .free .given .1
 
-check-requires : tie.Need-check-requires
-check-requires c κs = search needs
-
-number-requires : tie.Need-number-requires
-number-requires c κs = search needs
-
-with-requires : tie.Need-with-requires
-with-requires c κs = search needs
-
 returns : tie.Need-returns
 returns c =
     let k = c .before .before .before in
@@ -65,17 +56,8 @@ returns c =
     refused (lent (a .t1) (a .cells .now)) (Call.Update (a .place) (a .key) (a .value)) (k .check .ensures) (c .before .before .number .ensures)
     (c .before .if1 .taken) (c .with .ensures)
 
-mul-p : tie.Need-mul-p
-mul-p c = search needs
-
 element-copy-out-p : tie.Need-element-copy-out-p
 element-copy-out-p c = go c .below
-
-look-requires : tie.Need-look-requires
-look-requires c κs = search needs
-
-enum-known-mine : tie.Need-enum-known-mine
-enum-known-mine c = search needs
 
 cell-at-requires : tie.Need-cell-at-requires
 cell-at-requires c κs =
@@ -83,20 +65,11 @@ cell-at-requires c κs =
     let a = f .before .before .before .before .before .before .before .before .before .before .args in
     own-inside (a .key) (numberAt (a .t1) (a .place)) (a .cells .now) _ (found f)
 
-valued-requires : tie.Need-valued-requires
-valued-requires c κs = search needs
-
 put-cell-requires : tie.Need-put-cell-requires
 put-cell-requires c κs =
     let f = c .before .before .before .before in
     let a = f .before .before .before .before .before .before .before .before .before .before .args in
     own-inside (a .key) (numberAt (a .t1) (a .place)) (a .cells .now) _ (found f)
-
-with-requires-2 : tie.Need-with-requires-2
-with-requires-2 c κs = search needs
-
-same-length : tie.Need-same-length
-same-length c = search needs
 
 returns-2 : tie.Need-returns-2
 returns-2 c =
@@ -107,23 +80,8 @@ returns-2 c =
     (update-own (lent (a .t1) (a .cells .now)) (a .place) (a .key) (a .value) (found f) (c .before .before .before .before .before .before .cell-at .ensures)
     (c .before .before .before .before .valued .ensures) (c .before .before .before .put-cell .ensures))
 
-enum-told : tie.Need-enum-told
-enum-told c = search needs
-
-in-state-requires : tie.Need-in-state-requires
-in-state-requires c κs = search needs
-
-mul-t39 : tie.Need-mul-t39
-mul-t39 c = search needs
-
 element-set-from-self : tie.Need-element-set-from-self
 element-set-from-self c = go (c .before .before .before .before .before .before .before) .below
-
-with-requires-3 : tie.Need-with-requires-3
-with-requires-3 c κs = search needs
-
-same-length-2 : tie.Need-same-length-2
-same-length-2 c = search needs
 
 returns-3 : tie.Need-returns-3
 returns-3 c =
@@ -133,21 +91,6 @@ returns-3 c =
     let clash = sym (ap (λ (l : Looked). l .conflict) (n .before .before .look .ensures)) ∙ c .before .before .if2 .taken in
     go k .is (c .with3 .ensures)
     (update-clash (lent (a .t1) (a .cells .now)) (a .place) (a .key) (a .value) (none n) clash (c .before .in-state .ensures))
-
-reusable-requires : tie.Need-reusable-requires
-reusable-requires c κs = search needs
-
-enum-known-free : tie.Need-enum-known-free
-enum-known-free c = search needs
-
-enum-told-2 : tie.Need-enum-told-2
-enum-told-2 c = search needs
-
-with-requires-4 : tie.Need-with-requires-4
-with-requires-4 c κs = search needs
-
-same-length-3 : tie.Need-same-length-3
-same-length-3 c = search needs
 
 returns-4 : tie.Need-returns-4
 returns-4 c =
@@ -170,12 +113,6 @@ put-cell-requires-2 c κs =
     let a = n .before .before .before .before .before .before .before .before .before .args in
     free-inside (a .t1 .places) (a .cells .now) _ (room (c .before))
 
-with-requires-5 : tie.Need-with-requires-5
-with-requires-5 c κs = search needs
-
-same-length-4 : tie.Need-same-length-4
-same-length-4 c = search needs
-
 returns-5 : tie.Need-returns-5
 returns-5 c =
     let r = c .before .before .before .before .before in
@@ -191,35 +128,35 @@ pub update-spec : {M : Type 1} → statement M
 update-spec =
     tie.close
     (tie.spec
-    check-requires
-    number-requires
-    with-requires
+    (λ c κs. search needs)
+    (λ c κs. search needs)
+    (λ c κs. search needs)
     returns
-    mul-p
+    (λ c. search needs)
     element-copy-out-p
-    look-requires
-    enum-known-mine
+    (λ c κs. search needs)
+    (λ c. search needs)
     cell-at-requires
-    valued-requires
+    (λ c κs. search needs)
     put-cell-requires
-    with-requires-2
-    same-length
+    (λ c κs. search needs)
+    (λ c. search needs)
     returns-2
-    enum-told
-    in-state-requires
-    mul-t39
+    (λ c. search needs)
+    (λ c κs. search needs)
+    (λ c. search needs)
     element-set-from-self
-    with-requires-3
-    same-length-2
+    (λ c κs. search needs)
+    (λ c. search needs)
     returns-3
-    reusable-requires
-    enum-known-free
-    enum-told-2
-    with-requires-4
-    same-length-3
+    (λ c κs. search needs)
+    (λ c. search needs)
+    (λ c. search needs)
+    (λ c κs. search needs)
+    (λ c. search needs)
     returns-4
     add-t48
     put-cell-requires-2
-    with-requires-5
-    same-length-4
+    (λ c κs. search needs)
+    (λ c. search needs)
     returns-5)
