@@ -5,5 +5,6 @@ pub mod Check
 pub mod Spent
 pub mod Search
 pub mod Step
+pub mod Run
 pub mod Table
 pub mod Situations
