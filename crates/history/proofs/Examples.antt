@@ -8,7 +8,6 @@
 use mathlib.Core.Path.{_≡_, refl}
 use mathlib.Core.Logic.{inr}
 use mathlib.Core.Bool.{true}
-use mathlib.Core.List.{map}
 use Prim.Native.Nat.{ℕ}
 use native.Mathlib.Omega.{arith}
 use lib.ListN.{take, drop}
@@ -16,37 +15,38 @@ use Rattle.records.specs.declared.Call.{Call}
 use Rattle.cells.specs.Cells.{cellsOf, pastCells, wordsOf, withCells}
 use Rattle.cells.specs.Rules.{lowestFrom, hasCell, newest, ownAt, foreignWith, newestSeen, conflict}
 use Rattle.steps.specs.Shape.{inShape}
-use Rattle.steps.specs.Check.{placeCheck, checkOf}
+use Rattle.steps.specs.Check.{firstOf, checkOf}
 use Rattle.steps.specs.Spent.{hasPlace, reusable, heldBack}
 use Rattle.steps.specs.Step.{readAs, updatedAs, step}
-use Rattle.steps.specs.Situations.{Turn, Situation, case2, case5, case9}
-use Rattle.history.specs.History.{Wrote, Ledger, doneAt, accept, refuse, ledgerFrom, ledger, leaveFrom, run, Contested, Reaches, Overlapped}
+use Rattle.steps.specs.Run.{callsOf, run}
+use Rattle.steps.specs.Situations.{Situation, case2, case5, case9}
+use Rattle.history.specs.History.{Wrote, Ledger, doneAt, accept, refuse, ledgerFrom, ledger, leaveFrom, Contested, Reaches, Overlapped}
 use Rattle.history.specs.Verdict.{anyBelow, verdict, NeedsCell, Packed}
-use Rattle.history.specs.Examples.{pairOf, AsTold, allCaught, cheats}
+use Rattle.history.specs.Examples.{AsTold, allCaught, cheats}
 use Rattle.history.proofs.Judge.{full-right}
 
 -- THE HISTORIES
 
 pub history2 : AsTold case2
 unfolding cellsOf pastCells wordsOf withCells lowestFrom hasCell newest ownAt foreignWith newestSeen conflict
-    inShape placeCheck checkOf hasPlace reusable heldBack readAs updatedAs step run
+    inShape firstOf checkOf hasPlace reusable heldBack readAs updatedAs step run
 history2 = refl
 
 pub history5 : AsTold case5
 unfolding cellsOf pastCells wordsOf withCells lowestFrom hasCell newest ownAt foreignWith newestSeen conflict
-    inShape placeCheck checkOf hasPlace reusable heldBack readAs updatedAs step run
+    inShape firstOf checkOf hasPlace reusable heldBack readAs updatedAs step run
 history5 = refl
 
 pub history9 : AsTold case9
 unfolding cellsOf pastCells wordsOf withCells lowestFrom hasCell newest ownAt foreignWith newestSeen conflict
-    inShape placeCheck checkOf hasPlace reusable heldBack readAs updatedAs step run
+    inShape firstOf checkOf hasPlace reusable heldBack readAs updatedAs step run
 history9 = refl
 
 -- THEIR LEDGERS
 
 -- the ledger of the first n pairs of a situation
 abbrev upTo : ℕ → Situation → Ledger
-upTo n s = ledger (take n (map pairOf (s .turns)))
+upTo n s = ledger (take n (s .pairs))
 
 pub reaches2 : Reaches (upTo 6 case2) 1 7
 unfolding ledgerFrom accept refuse
@@ -78,10 +78,10 @@ needs9 =
 
 pub packed9 : Packed 2 (upTo 8 case9)
 packed9 =
-    full-right 2 (omega arith) (omega arith) (map (λ (t : Turn). t .call) (case9 .turns)) (take 8 (map pairOf (case9 .turns)))
-    (drop 9 (map pairOf (case9 .turns))) _ history9 needs9 .0 refl
+    full-right 2 (omega arith) (omega arith) (callsOf (case9 .pairs)) (take 8 (case9 .pairs)) (drop 9 (case9 .pairs)) _ history9
+    needs9 .0 refl
 
 -- THE CHEATS
 pub cheats-caught : allCaught cheats ≡ true
-unfolding verdict placeCheck anyBelow ledgerFrom accept refuse leaveFrom
+unfolding verdict checkOf firstOf anyBelow ledgerFrom accept refuse leaveFrom
 cheats-caught = refl

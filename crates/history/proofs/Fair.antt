@@ -14,7 +14,7 @@ use lib.ListN.{length, getD, take, length-append, List·getD-append}
 use lib.Seq.{getD-append-seam, take-append-le}
 use Rattle.steps.specs.declared.State.{State}
 use Rattle.steps.specs.Record.{allPlaces}
-use Rattle.history.specs.History.{Event, read, write, lastWrite, Wrote, Run, nobody, doing, turned, Done, nothing, Ledger, newLedger}
+use Rattle.history.specs.History.{Event, read, write, lastWrite, Wrote, Transaction, nobody, doing, turned, Done, nothing, Ledger, newLedger}
 use Rattle.history.specs.History.{doneAt, begun, ended, put, tick, opened, leave, sees, Contested, Overlapped}
 use Rattle.history.proofs.Basics.{cases, eq?, lt?, none-some}
 use Rattle.history.proofs.Link.{put-same, put-other, write-other}
@@ -43,7 +43,7 @@ pub record Fits (D : List Done) (bound began seen : ℕ) (did : List Event) : Ty
   pub apart : (i k : ℕ) → seen ≤ i → i < bound → Wrote (nth D i .did) k → Wrote did k → ⊥
   pub told : Told (snapshot D seen) did
 
-abbrev RunFits : List Done → Run → Type 0
+abbrev RunFits : List Done → Transaction → Type 0
 RunFits D r = Fits D (length D) (r .began) (r .seen) (r .did)
 
 -- the transactions at the places fit, and write apart; each committed one fits those before it
@@ -111,7 +111,7 @@ module _ (D : List Done) (bound began seen : ℕ) (did : List Event) (g : Fits D
         }
 
 -- one more has committed that wrote no key that this one wrote
-grow-run : (D : List Done) (r : Run) (x : Done) → RunFits D r → r .began ≤ x .ended → ((k : ℕ) → Wrote (x .did) k → Wrote (r .did) k → ⊥)
+grow-run : (D : List Done) (r : Transaction) (x : Done) → RunFits D r → r .began ≤ x .ended → ((k : ℕ) → Wrote (x .did) k → Wrote (r .did) k → ⊥)
     → RunFits (D ++ (x ∷ [])) r
 grow-run D r x g b a =
     let n = length D in
@@ -154,9 +154,9 @@ module _ (L : Ledger) (f : Fair L) where
       }
 
   -- ANOTHER TRANSACTION AT PLACE p
-  module _ (p starts : ℕ) (r : Run) (g : RunFits (L .past) r) (b : r .began ≤ L .calls)
+  module _ (p starts : ℕ) (r : Transaction) (g : RunFits (L .past) r) (b : r .began ≤ L .calls)
       (o : (q k : ℕ) → q < allPlaces → (q ≡ p → ⊥) → Wrote (L .at q .did) k → Wrote (r .did) k → ⊥) where
-    abbrev runs′ : ℕ → Run
+    abbrev runs′ : ℕ → Transaction
     runs′ = put (L .at) p r
 
     others′ : (q s k : ℕ) → q < allPlaces → s < allPlaces → (s ≡ q → ⊥) → Wrote (runs′ s .did) k → Wrote (runs′ q .did) k → ⊥

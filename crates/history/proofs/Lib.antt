@@ -16,4 +16,3 @@ pub mod Judge
 pub mod Axioms
 pub mod Examples
 pub mod Small
-pub mod Bytes

@@ -2,38 +2,29 @@
 -- Assumes nothing.
 use mathlib.Core.Path.{_≡_}
 use mathlib.Core.Bool.{Bool, true, not, _&&_}
-use mathlib.Core.List.{List, [], _∷_, _++_, map}
-use lib.Dec.{eqb}
+use mathlib.Core.List.{List, [], _∷_, _++_}
 use Rattle.records.specs.declared.Call.{Call}
 use Rattle.records.specs.declared.Answer.{Answer}
-use Rattle.records.specs.Answers.{numberOf, valueOf}
-use Rattle.steps.specs.Situations.{Turn, _gives_, Situation, firstCommit}
-use Rattle.history.specs.History.{Pair, answeredBy, Ledger, newLedger, note, ledger, fromFresh}
+use Rattle.steps.specs.Store.{saidOf}
+use Rattle.steps.specs.Run.{Pair, callsOf}
+use Rattle.steps.specs.Situations.{_gives_, sameSaid, Situation, firstCommit}
+use Rattle.history.specs.History.{Ledger, newLedger, note, ledger, fromFresh}
 use Rattle.history.specs.Verdict.{verdict}
-
--- a call and what comes back, as a pair
-abbrev pub pairOf : Turn → Pair
-pairOf t = answeredBy (t .call) (numberOf (t .answer)) (valueOf (t .answer))
 
 -- the situation's history is the one that document 01 tells
 abbrev pub AsTold : Situation → Type 0
-AsTold s = fromFresh (s .cells) (map (λ (t : Turn). t .call) (s .turns)) .pairs ≡ map pairOf (s .turns)
+AsTold s = fromFresh (s .cells) (callsOf (s .pairs)) .pairs ≡ s .pairs
 
 -- CHEATS
 
--- the same number and value
-abbrev pub sameAnswer : Answer → Answer → Bool
-sameAnswer a c = eqb (numberOf a) (numberOf c) && eqb (valueOf a) (valueOf c)
-
 -- every answer is the verdict of the pairs before it
-abbrev pub judged : Ledger → List Turn → Bool
+abbrev pub judged : Ledger → List Pair → Bool
 judged L [] = true
-judged L (t ∷ ts) =
-    sameAnswer (verdict L (t .call)) (t .answer) && judged (note L (t .call) (numberOf (t .answer)) (valueOf (t .answer))) ts
+judged L (h ∷ hs) = sameSaid (saidOf (verdict L (h .call))) (h .said) && judged (note L h) hs
 
 -- a history, the next call, what the cheating store answers, and what is due
 pub record Cheat : Type 0 where
-  pub before : List Turn
+  pub before : List Pair
   pub call : Call
   pub cheating : Answer
   pub right : Answer
@@ -42,8 +33,8 @@ pub record Cheat : Type 0 where
 abbrev pub caught : Cheat → Bool
 caught c =
     judged newLedger (c .before)
-    && sameAnswer (verdict (ledger (map pairOf (c .before))) (c .call)) (c .right)
-    && not (sameAnswer (c .cheating) (c .right))
+    && sameSaid (saidOf (verdict (ledger (c .before)) (c .call))) (saidOf (c .right))
+    && not (sameSaid (saidOf (c .cheating)) (saidOf (c .right)))
 
 -- all of them
 abbrev pub allCaught : List Cheat → Bool
