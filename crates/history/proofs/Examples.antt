@@ -3,12 +3,16 @@
 --     contested2     in case 2 the refused update reaches the conflict test, and its key is contested
 --     overlapped5    in case 5 the two committed transactions overlapped, and each wrote
 --     packed9        in case 9 two different writes are needed, and there are two cells
+--     historyTwo, overlappedTwo     two that overlapped and wrote apart, the last to commit having begun first: the board allows it
+--     shared-first, shared-last     had both written one key, demand 3 would not hold, in whichever order they began
 --     cheats-caught     each shortcut of document 01, and a store that feigns, gives an answer that is not the verdict
+--     reads-refuse, conflicts-refuse, final-refuses     and does not meet demand 3's sentence on reads or conflicts; nor does a stray cell
 -- Assumes nothing.
-use mathlib.Core.Path.{_≡_, refl}
-use mathlib.Core.Logic.{inr}
-use mathlib.Core.Bool.{true}
-use Prim.Native.Nat.{ℕ}
+use mathlib.Core.Path.{_≡_, refl, sym}
+use mathlib.Core.Logic.{inl, inr}
+use mathlib.Core.Bool.{true, true≢false}
+use mathlib.Core.List.{[], _∷_}
+use Prim.Native.Nat.{ℕ, _<_}
 use native.Mathlib.Omega.{arith}
 use lib.ListN.{take, drop}
 use Rattle.records.specs.declared.Call.{Call}
@@ -18,12 +22,16 @@ use Rattle.steps.specs.Shape.{inShape}
 use Rattle.steps.specs.Check.{firstOf, checkOf}
 use Rattle.steps.specs.Spent.{hasPlace, reusable, heldBack}
 use Rattle.steps.specs.Step.{readAs, updatedAs, step}
+use Rattle.steps.specs.Record.{freshBoard}
+use Rattle.steps.specs.Store.{saidOf, lent}
 use Rattle.steps.specs.Run.{callsOf, run}
-use Rattle.steps.specs.Situations.{Situation, case2, case5, case9}
+use Rattle.steps.specs.Situations.{Situation, onFresh, case2, case5, case9}
 use Rattle.history.specs.History.{Wrote, Ledger, doneAt, accept, refuse, ledgerFrom, ledger, leaveFrom, Contested, Reaches, Overlapped}
+use Rattle.history.specs.History.{ReadsRight, ConflictsExact, LastHolds}
 use Rattle.history.specs.Verdict.{anyBelow, verdict, NeedsCell, Packed}
-use Rattle.history.specs.Examples.{AsTold, allCaught, cheats}
-use Rattle.history.proofs.Judge.{full-right}
+use Rattle.history.specs.Examples.{AsTold, firstBeganFirst, lastBeganFirst, SharedKey, cheated, allCaught, cheats}
+use Rattle.history.specs.Examples.{Cheat, viewsAlone, newestAtEachRead, anyOldVersion, firstCellOnly, feigning}
+use Rattle.history.proofs.Judge.{of-contested, full-right}
 
 -- THE HISTORIES
 
@@ -64,6 +72,32 @@ pub wrote5 : Wrote (doneAt (upTo 10 case5) 0 .did) 1 × Wrote (doneAt (upTo 10 c
 unfolding ledgerFrom accept refuse
 wrote5 = ((3, refl), (4, refl))
 
+-- TWO THAT OVERLAPPED
+
+-- the last to commit began first
+pub historyTwo : AsTold (onFresh 4 (lastBeganFirst 2))
+unfolding cellsOf pastCells wordsOf withCells lowestFrom hasCell newest ownAt foreignWith newestSeen conflict
+    inShape firstOf checkOf hasPlace reusable heldBack readAs updatedAs step run
+historyTwo = refl
+
+abbrev two : Ledger
+two = ledger (lastBeganFirst 2)
+
+pub overlappedTwo : Overlapped (doneAt two 0) (doneAt two 1) × (doneAt two 1 .began < doneAt two 0 .began)
+unfolding ledgerFrom accept refuse
+overlappedTwo = ((omega arith, omega arith), omega arith)
+
+-- both wrote key 1
+pub shared-first : SharedKey (firstBeganFirst 1)
+unfolding ledgerFrom accept refuse
+shared-first apart = apart 0 1 (omega arith) (omega arith) (omega arith, omega arith) 1 (3, refl) (4, refl)
+
+pub shared-last : SharedKey (lastBeganFirst 1)
+unfolding ledgerFrom accept refuse
+shared-last apart = apart 0 1 (omega arith) (omega arith) (omega arith, omega arith) 1 (3, refl) (4, refl)
+
+-- CASE 9
+
 needs9 : NeedsCell (upTo 8 case9) (Call.Update 0 0 3)
 unfolding ledgerFrom accept refuse anyBelow
 needs9 =
@@ -82,6 +116,39 @@ packed9 =
     needs9 .0 refl
 
 -- THE CHEATS
+
 pub cheats-caught : allCaught cheats ≡ true
 unfolding verdict checkOf firstOf anyBelow ledgerFrom accept refuse leaveFrom
 cheats-caught = refl
+
+-- the ledger before the cheating answer
+abbrev before : Cheat → Ledger
+before c = ledger (c .before)
+
+-- a cheating read shows something else than what its transaction sees
+pub reads-refuse : (ReadsRight (cheated newestAtEachRead) → ⊥) × (ReadsRight (cheated anyOldVersion) → ⊥) × (ReadsRight (cheated feigning) → ⊥)
+unfolding ledgerFrom accept refuse leaveFrom
+reads-refuse = (
+  λ r. omega (arith, r (newestAtEachRead .before) [] 1 7 12 refl),
+  λ r. omega (arith, r (anyOldVersion .before) [] 5 0 0 refl),
+  λ r. omega (arith, r (feigning .before) [] 0 0 1 refl),
+)
+
+-- a write let through where the key is contested, and one refused where it is not
+pub conflicts-refuse : (ConflictsExact (cheated viewsAlone) → ⊥) × (ConflictsExact (cheated firstCellOnly) → ⊥)
+unfolding ledgerFrom accept refuse anyBelow
+conflicts-refuse = (
+  λ c.
+      let r : Reaches (before viewsAlone) 1 5 = record { place = omega arith; key = omega arith; state = refl; first = refl } in
+      let e : Contested (before viewsAlone) 1 5 = inl (0, omega arith, omega arith, (1, refl)) in
+      omega (arith, c (viewsAlone .before) [] 1 5 2 (saidOf (viewsAlone .cheating)) refl r .1 e),
+  λ c.
+      let r : Reaches (before firstCellOnly) 1 2 = record { place = omega arith; key = omega arith; state = refl; first = refl } in
+      let e : Contested (before firstCellOnly) 1 2 = c (firstCellOnly .before) [] 1 2 9 (saidOf (firstCellOnly .cheating)) refl r .0 refl in
+      true≢false (sym (of-contested (before firstCellOnly) 1 2 e)),
+)
+
+-- a committed cell with a number that no commit gave is looked at too
+pub final-refuses : LastHolds [] (lent freshBoard (wordsOf (record { word = 1; value = 5; number = 1; commit = 9 } ∷ []))) → ⊥
+unfolding wordsOf cellsOf newest ledgerFrom leaveFrom
+final-refuses f = omega (arith, f 0)

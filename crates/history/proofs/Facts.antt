@@ -1,6 +1,6 @@
 -- The rules' tests of a cell, as equations and orders of its words, and back.
 -- Assumes nothing.
-use mathlib.Core.Path.{_≡_, sym, ap, _∙_}
+use mathlib.Core.Path.{_≡_, refl, sym, ap, _∙_}
 use mathlib.Core.Logic.{_⊎_, inl, inr}
 use mathlib.Core.Bool.{Bool, true, false, not, _&&_}
 use mathlib.Core.List.{List, [], _∷_}
@@ -17,7 +17,12 @@ use Rattle.cells.proofs.Meaning.{own-found, own-none}
 use Rattle.steps.specs.declared.Place.{Place}
 use Rattle.steps.specs.Spent.{hasPlace, keepsAt, spent}
 use Rattle.steps.proofs.Tests.{and-both as both, and-left, and-right}
+use Rattle.history.specs.History.{versionOf}
 use Rattle.history.proofs.Basics.{cases, clash, or-cases, or-left, or-right}
+
+and-assoc : (a b c : Bool) → ((a && b) && c) ≡ (a && (b && c))
+and-assoc true b c = refl
+and-assoc false b c = refl
 
 abbrev pub cellAt : List Cell → ℕ → Cell
 cellAt cs i = getD cs i noCell
@@ -83,6 +88,16 @@ module _ (c : Cell) where
   -- COMMITTED
   pub committed-of : (k : ℕ) → c .word ≡ k + 1 → 0 < c .commit → committed c ≡ true
   committed-of k e h = both (not-empty k e) (lt-ltb _ _ h)
+
+  pub version-facts : (k : ℕ) → versionOf k c ≡ true → (c .word ≡ k + 1) × (0 < c .commit)
+  version-facts k e = (
+    eqb-true _ _ (and-left (ofKey k c) (committed c) e),
+    ltb-true _ _ (and-right (not (empty c)) (ltb 0 (c .commit)) (and-right (ofKey k c) (committed c) e)),
+  )
+
+  -- no view sees what is no committed cell of the key
+  pub not-visible : (k w : ℕ) → versionOf k c ≡ false → visible k w c ≡ false
+  not-visible k w e = sym (and-assoc (ofKey k c) (committed c) (leb (c .commit) w)) ∙ rw e
 
   pub visible-facts : (k w : ℕ) → visible k w c ≡ true → (c .word ≡ k + 1) × (0 < c .commit) × (c .commit ≤ w)
   visible-facts k w e =

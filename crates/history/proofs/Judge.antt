@@ -81,7 +81,7 @@ module _ (L : Ledger) (p k : ℕ) where
       let l = leb-true _ _ (and-left (leb (L .at p .seen) (r .0)) (wroteKey (doneAt L (r .0) .did) k) (r .2)) in
       inr (r .0, l, r .1, some-of _ (and-right (leb (L .at p .seen) (r .0)) (wroteKey (doneAt L (r .0) .did) k) (r .2))))
 
-  of-contested : Contested L p k → contested L p k ≡ true
+  pub of-contested : Contested L p k → contested L p k ≡ true
   of-contested c = cases c
       (λ u. or-left (anyBelow allPlaces another) (anyBelow (length (L .past)) since)
       (below-at allPlaces another (u .0) (u .1) (both (ap not (ne-eqb _ _ (u .2))) (ap isSome (u .3 .1)))))

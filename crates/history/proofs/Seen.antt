@@ -2,10 +2,10 @@
 -- Assumes nothing.
 use mathlib.Core.Path.{_≡_, refl, sym, ap, _∙_}
 use mathlib.Core.Logic.{inl, inr, _↔_}
-use mathlib.Core.Bool.{true, false}
-use mathlib.Core.List.{List}
+use mathlib.Core.Bool.{Bool, true, false}
+use mathlib.Core.List.{List, [], _∷_}
 use mathlib.Core.Option.{none}
-use Prim.Native.Nat.{ℕ, _+_, _≤_, _<_}
+use Prim.Native.Nat.{ℕ, suc, _+_, _≤_, _<_}
 use native.Mathlib.Omega.{arith}
 use lib.ListN.{length, take}
 use lib.Seq.{take-length}
@@ -13,19 +13,28 @@ use Rattle.records.specs.declared.Answer.{Answer}
 use Rattle.records.specs.Answers.{numberOf}
 use Rattle.cells.specs.declared.Cell.{Cell}
 use Rattle.cells.specs.declared.Found.{Found}
-use Rattle.cells.specs.Rules.{ownAt, visible, newestSeen, blocks, conflict}
+use Rattle.cells.specs.Cells.{noCell}
+use Rattle.cells.specs.Rules.{newest, ownAt, visible, newestSeen, blocks, conflict}
 use Rattle.cells.proofs.Meaning.{Newest, has-found, some-has, seen-means}
 use Rattle.steps.specs.declared.State.{State}
 use Rattle.steps.specs.declared.Board.{Board}
 use Rattle.steps.specs.Record.{allPlaces, placeAt}
 use Rattle.steps.specs.Store.{Store, Outcome, cellsIn}
 use Rattle.steps.specs.Step.{readAs, updatedAs, numberAt, viewAt}
-use Rattle.history.specs.History.{Ledger, sees, leave, Contested}
+use Rattle.history.specs.History.{Ledger, sees, leave, Contested, versionOf}
+use Rattle.steps.proofs.Tests.{two}
 use Rattle.steps.proofs.Cases.{on-read, on-update}
 use Rattle.history.proofs.Basics.{cases, clash, none?, none-some, pos}
-use Rattle.history.proofs.Facts.{cellAt, in-cells, own-draft, no-draft, visible-facts, visible-of, blocks-facts, foreign-blocks, later-blocks}
+use Rattle.history.proofs.Facts.{cellAt, in-cells, own-draft, no-draft, version-facts, visible-facts, visible-of, not-visible}
+use Rattle.history.proofs.Facts.{blocks-facts, foreign-blocks, later-blocks}
 use Rattle.history.proofs.Leave.{wroteAt, leave-none, leave-last}
 use Rattle.history.proofs.Link.{busy, wrote, Live, Linked, writer-busy, same-place, own-cell}
+
+-- two tests that say the same of every cell find the same
+same-newest : (p q : Cell → Bool) (best : Cell) (cs : List Cell) → ((i : ℕ) → p (cellAt cs i) ≡ q (cellAt cs i)) → newest p best cs ≡ newest q best cs
+unfolding newest
+same-newest p q best [] e = refl
+same-newest p q best (c ∷ cs) e = rw (e 0) (same-newest p q _ cs (λ i. e (suc i)))
 
 module _ (b : Board) (cs : List Cell) (L : Ledger) (𝓛 : Linked b cs L) where
   -- WHAT A LIVE VIEW READS IS WHAT THE FIRST w COMMITTED LEAVE
@@ -57,8 +66,23 @@ module _ (b : Board) (cs : List Cell) (L : Ledger) (𝓛 : Linked b cs L) where
       ∙ sym (leave-none w (L .past) k (λ m l. no-later w live k m (λ i h t. clash t (e .1 i h)) l)))
       (λ s. newest-read w live k (newestSeen k w cs) s)
 
-  pub board-holds : (k : ℕ) → newestSeen k (b .commits) cs .value ≡ leave (L .past) k
-  board-holds k = live-read (b .commits) (inl refl) k ∙ rw (𝓛 .counted, take-length)
+  -- no cell is numbered above the commit count: from there on a view sees all that is committed
+  all-seen : (w : ℕ) → b .commits ≤ w → (k i : ℕ) → visible k w (cellAt cs i) ≡ versionOf k (cellAt cs i)
+  all-seen w l k i = cases (two (versionOf k (cellAt cs i)))
+      (λ e.
+      let f = version-facts (cellAt cs i) k e in
+      let g = pos (cellAt cs i .commit) (f .1) in
+      let u = 𝓛 .pasts i k (g .0) (f .0) (g .1) in
+      visible-of (cellAt cs i) k w (f .0) (f .1) (omega (arith, u .0, g .1, 𝓛 .counted)) ∙ sym e)
+      (λ e. not-visible (cellAt cs i) k w e ∙ sym e)
+
+  pub newest-seen : (w : ℕ) → b .commits ≤ w → (k : ℕ) → newest (versionOf k) noCell cs ≡ newestSeen k w cs
+  unfolding newestSeen
+  newest-seen w l k = sym (same-newest (visible k w) (versionOf k) noCell cs (all-seen w l k))
+
+  pub board-holds : (k : ℕ) → newest (versionOf k) noCell cs .value ≡ leave (L .past) k
+  board-holds k =
+      ap (λ (c : Cell). c .value) (newest-seen (b .commits) (omega arith) k) ∙ live-read (b .commits) (inl refl) k ∙ rw (𝓛 .counted, take-length)
 
   pub not-written : (p k : ℕ) → p < allPlaces → ownAt k (numberAt b p) cs ≡ Found.Nothing → wrote L p k ≡ none
   not-written p k l n = cases (none? (wrote L p k)) (λ e. e)

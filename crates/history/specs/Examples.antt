@@ -1,19 +1,43 @@
--- Closed histories: cases 2, 5 and 9 of document 01, and stores that cheat.
+-- Closed histories: cases 2, 5 and 9 of document 01, two transactions that overlapped, and stores that cheat.
 -- Assumes nothing.
 use mathlib.Core.Path.{_≡_}
 use mathlib.Core.Bool.{Bool, true, not, _&&_}
 use mathlib.Core.List.{List, [], _∷_, _++_}
+use Prim.Native.Nat.{ℕ}
 use Rattle.records.specs.declared.Call.{Call}
 use Rattle.records.specs.declared.Answer.{Answer}
 use Rattle.steps.specs.Store.{saidOf}
 use Rattle.steps.specs.Run.{Pair, callsOf}
 use Rattle.steps.specs.Situations.{_gives_, sameSaid, Situation, firstCommit}
-use Rattle.history.specs.History.{Ledger, newLedger, note, ledger, fromFresh}
+use Rattle.history.specs.History.{Ledger, newLedger, note, ledger, fromFresh, OverlappedApart}
 use Rattle.history.specs.Verdict.{verdict}
 
 -- the situation's history is the one that document 01 tells
 abbrev pub AsTold : Situation → Type 0
 AsTold s = fromFresh (s .cells) (callsOf (s .pairs)) .pairs ≡ s .pairs
+
+-- TWO THAT OVERLAPPED
+
+-- places 0 and 1 open before either commits. Place 0 writes key 1 and commits, then place 1 writes a key and commits
+abbrev pub writeInTurn : ℕ → List Pair
+writeInTurn key =
+    Call.Update 0 1 3 gives Answer.Ok 0
+    ∷ Call.Commit 0 gives Answer.Ok 1
+    ∷ Call.Update 1 key 4 gives Answer.Ok 0
+    ∷ Call.Commit 1 gives Answer.Ok 2
+    ∷ []
+
+-- the first to commit began first
+abbrev pub firstBeganFirst : ℕ → List Pair
+firstBeganFirst key = Call.Start 0 gives Answer.Ok 1 ∷ Call.Start 1 gives Answer.Ok 2 ∷ writeInTurn key
+
+-- the last to commit began first
+abbrev pub lastBeganFirst : ℕ → List Pair
+lastBeganFirst key = Call.Start 1 gives Answer.Ok 1 ∷ Call.Start 0 gives Answer.Ok 2 ∷ writeInTurn key
+
+-- demand 3 does not allow these answers
+abbrev pub SharedKey : List Pair → Type 0
+SharedKey hs = OverlappedApart hs → ⊥
 
 -- CHEATS
 
@@ -28,6 +52,10 @@ pub record Cheat : Type 0 where
   pub call : Call
   pub cheating : Answer
   pub right : Answer
+
+-- the history with the cheating answer
+abbrev pub cheated : Cheat → List Pair
+cheated c = c .before ++ (c .call gives c .cheating ∷ [])
 
 -- nothing was wrong before; the verdict is the right answer, and the cheating one is not
 abbrev pub caught : Cheat → Bool

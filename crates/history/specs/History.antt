@@ -3,7 +3,7 @@
 -- Assumes nothing.
 use mathlib.Core.Path.{_≡_}
 use mathlib.Core.Logic.{_↔_, _⊎_}
-use mathlib.Core.Bool.{Bool, cond}
+use mathlib.Core.Bool.{Bool, cond, _&&_}
 use mathlib.Core.List.{List, [], _∷_, _++_}
 use mathlib.Core.Option.{Option, none, some, Option·getD}
 use Prim.Native.Nat.{ℕ, _+_, _≤_, _<_}
@@ -12,7 +12,9 @@ use lib.ListN.{length, getD, take}
 use Rattle.records.specs.declared.Call.{Call}
 use Rattle.records.specs.declared.Answer.{Answer}
 use Rattle.records.specs.Answers.{numberOf}
-use Rattle.cells.specs.Rules.{newestSeen}
+use Rattle.cells.specs.declared.Cell.{Cell}
+use Rattle.cells.specs.Cells.{noCell, ofKey, committed}
+use Rattle.cells.specs.Rules.{newest}
 use Rattle.steps.specs.declared.State.{State}
 use Rattle.steps.specs.Record.{allPlaces, allKeys, mostCells}
 use Rattle.steps.specs.Store.{Store, Said, saidOf, cellsIn, freshStore}
@@ -211,10 +213,13 @@ ConflictsExact hs = (before after : List Pair) (p k new : ℕ) (s : Said)
     → hs ≡ before ++ (record { call = Call.Update p k new; said = s } ∷ after) → Reaches (ledger before) p k
     → (s .number ≡ numberOf Answer.Conflict) ↔ Contested (ledger before) p k
 
--- what a board holds for a key: the value in its committed cell with the greatest commit number that is at most the commit count; if
--- there is none, 0
+-- a committed cell of the key
+abbrev pub versionOf : ℕ → Cell → Bool
+versionOf k c = ofKey k c && committed c
+
+-- what a board holds for a key: the value in its committed cell with the greatest commit number; if there is none, 0
 abbrev pub holds : Store → ℕ → ℕ
-holds st k = newestSeen k (st .board .commits) (cellsIn st) .value
+holds st k = newest (versionOf k) noCell (cellsIn st) .value
 
 -- the last board holds, for each key, what the committed ones leave in commit order
 abbrev pub LastHolds : List Pair → Store → Type 0
