@@ -1,7 +1,7 @@
 -- One look at a key's cells: what a turn and the end of the pass tell, and that the whole pass is what the rules of the four questions say.
 -- Assumes nothing.
 use mathlib.Core.Path.{_≡_, refl, sym, ap, _∙_}
-use mathlib.Core.Bool.{Bool, true, false, _&&_, _||_}
+use mathlib.Core.Bool.{Bool, true, false, _&&_, _||_, or-false, or-assoc}
 use mathlib.Core.List.{List, [], _∷_}
 use Prim.Native.Nat.{ℕ, _+_, _*_, _/_, _^_, _≤_, _<_}
 use native.Mathlib.Omega.{arith}
@@ -64,10 +64,6 @@ or-nothing : (f : Found) → f ≡ orFound f Nothing
 or-nothing (At j) = refl
 or-nothing Nothing = refl
 
-or-false : (a : Bool) → a ≡ (a || false)
-or-false true = refl
-or-false false = refl
-
 -- one more cell, of the key or not: what each question knows after it
 own-step : (t u : Bool) (a b : Looked) (i : ℕ) (f : Found) → a .own ≡ lowestOf (b .own) u i
     → orFound (pickLook t a b .own) f ≡ orFound (b .own) (pickFound (t && u) (At i) f)
@@ -98,11 +94,7 @@ pick-newest false s q a b c e = refl
 
 or-step : (t a u h : Bool) (x : Bool) → x ≡ (a || u) → (pickBool t x a || h) ≡ (a || (t && u || h))
 or-step false a u h x e = refl
-or-step true a u h x e = ap (λ (y : Bool). y || h) e ∙ regroup a
-  where
-    regroup : (a : Bool) → (a || u || h) ≡ (a || (u || h))
-    regroup true = refl
-    regroup false = refl
+or-step true a u h x e = ap (λ (y : Bool). y || h) e ∙ or-assoc a u h
 
 module _ (key number view : ℕ) where
   abbrev next-look : ℕ → Cell → Looked → Looked
@@ -119,7 +111,7 @@ module _ (key number view : ℕ) where
   foreign-from : (cs : List Cell) (i : ℕ) (l : Looked)
       → lookFrom key number view i l cs .foreign ≡ (l .foreign || hasCell (λ c. ofKey key c && foreign number c) cs)
   unfolding lookFrom hasCell
-  foreign-from [] i l = or-false (l .foreign)
+  foreign-from [] i l = sym (or-false (l .foreign))
   foreign-from (c ∷ cs) i l =
       foreign-from cs (i + 1) (next-look i c l)
       ∙ ap (λ (x : Bool). x || hasCell (λ c. ofKey key c && foreign number c) cs)
@@ -129,7 +121,7 @@ module _ (key number view : ℕ) where
   conflict-from : (cs : List Cell) (i : ℕ) (l : Looked)
       → lookFrom key number view i l cs .conflict ≡ (l .conflict || hasCell (blocks key number view) cs)
   unfolding lookFrom hasCell
-  conflict-from [] i l = or-false (l .conflict)
+  conflict-from [] i l = sym (or-false (l .conflict))
   conflict-from (c ∷ cs) i l =
       conflict-from cs (i + 1) (next-look i c l)
       ∙ ap (λ (x : Bool). x || hasCell (blocks key number view) cs)

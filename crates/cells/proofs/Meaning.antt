@@ -5,7 +5,7 @@
 --     has-found, has-none                       the facts of "has a cell" by its answer
 --     some-has, none-has                        the answer by the facts
 --     seen-means, seen-only                     the newest committed cell of the key that a view sees
---     own-found, own-none, own-inside           the lowest own cell of a key, and that it is one of the cells
+--     own-found, own-none                       the lowest own cell of a key
 --     unique                                    one result meets a contract
 -- Assumes nothing.
 use mathlib.Core.Path.{_≡_, refl, sym, ap, _∙_}
@@ -21,9 +21,9 @@ use lib.Dec.{ltb, leb}
 use Rattle.cells.specs.declared.Cell.{Cell}
 use Rattle.cells.specs.declared.Found.{Found}
 use Rattle.cells.specs.declared.Found.the-variants.{At, Nothing}
-use Rattle.cells.specs.Cells.{noCell, cellsOf, countOf, empty, ofKey, committed, seenBy}
+use Rattle.cells.specs.Cells.{noCell, empty, ofKey, committed, seenBy}
 use Rattle.cells.specs.Rules.{pickFound, pickCell, lowestFrom, hasCell, newest, mine, ownAt, visible, newestSeen}
-use Rattle.cells.proofs.Words.{length-cells}
+use Rattle.cells.proofs.Tests.{and-left, and-right}
 
 -- each contract says that the result, or the words lent, equal what a definition computes: two that meet it are equal
 pub unique : {A : Type 0} (x a b : A) → a ≡ x → b ≡ x → a ≡ b
@@ -295,20 +295,12 @@ module _ (p : Cell → Bool) where
   newest-only numbered cs r a = newest-same cs r (newest p noCell cs) a (newest-means numbered cs)
 
 -- the two scans by name
-both-left : (a b : Bool) → (a && b) ≡ true → a ≡ true
-both-left true b e = refl
-both-left false b e = e
-
-both-right : (a b : Bool) → (a && b) ≡ true → b ≡ true
-both-right true b e = e
-both-right false b e = absurd (clash e refl)
-
 module _ (key view : ℕ) where
   visible-numbered : (c : Cell) → visible key view c ≡ true → 0 < c .commit
   visible-numbered c e =
-      let seen : seenBy view c ≡ true = both-right (ofKey key c) (seenBy view c) e in
-      let done : committed c ≡ true = both-left (committed c) (leb (c .commit) view) seen in
-      ltb-true 0 (c .commit) (both-right (not (empty c)) (ltb 0 (c .commit)) done)
+      let seen : seenBy view c ≡ true = and-right (ofKey key c) (seenBy view c) e in
+      let done : committed c ≡ true = and-left (committed c) (leb (c .commit) view) seen in
+      ltb-true 0 (c .commit) (and-right (not (empty c)) (ltb 0 (c .commit)) done)
 
   pub seen-means : (cs : List Cell) → NewestIs (visible key view) cs (newestSeen key view cs)
   unfolding newestSeen
@@ -326,6 +318,3 @@ module _ (key number : ℕ) where
   pub own-none : (cs : List Cell) → ownAt key number cs ≡ Nothing → None (mine key number) cs
   unfolding ownAt
   own-none cs e = lowest-none (mine key number) cs e
-
-  pub own-inside : (ws : List ℕ) (i : ℕ) → ownAt key number (cellsOf ws) ≡ At i → i < countOf (length ws)
-  own-inside ws i e = omega (arith, own-found (cellsOf ws) i e .inside, length-cells ws)

@@ -1,22 +1,20 @@
 -- A scan of cells from the front: what one turn, and the end, tell. In each, `drop i cs` is what has yet to be looked at.
 --     lowest-..     the lowest that passes a test
 --     has-..        whether one passes
---     newest-..     the one of the greatest commit number so far
 --     to-..         cells that are changed one by one, in words
 -- Assumes nothing.
 use mathlib.Core.Path.{_≡_, refl, sym, ap, _∙_}
-use mathlib.Core.Bool.{Bool, true, false, _&&_}
+use mathlib.Core.Bool.{Bool, true, false}
 use mathlib.Core.List.{List, [], _∷_, map}
 use Prim.Native.Nat.{ℕ, _+_, _/_, _≤_, _<_}
 use lib.ListN.{length, getD, set, drop, drop-of-length-le}
-use lib.Dec.{ltb}
 use Rattle.cells.specs.declared.Cell.{Cell}
 use Rattle.cells.specs.declared.Found.{Found}
 use Rattle.cells.specs.declared.Found.the-variants.{At, Nothing}
 use Rattle.cells.specs.Cells.{noCell, cellsOf, withCells}
-use Rattle.cells.specs.Rules.{lowestFrom, hasCell, newest, pickCell}
-use Rattle.cells.proofs.Laws.{drop-next, mapTo, mapTo-at, mapTo-next, mapTo-keep, mapTo-all, mapTo-none, length-mapTo}
-use Rattle.cells.proofs.Words.{with-cells, cells-with, with-with, length-cells, length-same}
+use Rattle.cells.specs.Rules.{lowestFrom, hasCell}
+use Rattle.cells.proofs.Laws.{drop-next, mapTo, mapTo-at, mapTo-next, mapTo-all, mapTo-none}
+use Rattle.cells.proofs.Words.{with-cells, cells-with, with-with, length-cells}
 
 -- a turn of a scan
 module _ (ws : List ℕ) (i : ℕ) (h : i < length ws / 4) where
@@ -45,16 +43,7 @@ module _ (ws : List ℕ) (i : ℕ) (h : i < length ws / 4) where
     unfolding hasCell
     has-next e = rw (cells-next, e)
 
-    -- the choice that a turn makes between the best so far and cell i
-    pub newest-turn : (b : Cell) (t : Bool)
-        → (p (getD (cellsOf ws) i noCell) && ltb (b .commit) (getD (cellsOf ws) i noCell .commit)) ≡ t
-        → newest p b (drop i (cellsOf ws)) ≡ newest p (pickCell t (getD (cellsOf ws) i noCell) b) (drop (i + 1) (cellsOf ws))
-    unfolding newest
-    newest-turn b t e =
-        ap (newest p b) cells-next
-        ∙ ap (λ (u : Bool). newest p (pickCell u (getD (cellsOf ws) i noCell) b) (drop (i + 1) (cellsOf ws))) e
-
-  -- a turn that changes cell i, and one that leaves it where it may be left
+  -- a turn that changes cell i
   module _ (f : Cell → Cell) where
     abbrev now-words : List ℕ
     now-words = withCells ws (mapTo i f (cellsOf ws))
@@ -63,19 +52,12 @@ module _ (ws : List ℕ) (i : ℕ) (h : i < length ws / 4) where
         ≡ withCells ws (mapTo (i + 1) f (cellsOf ws))
     to-next = rw (cells-with, with-with) (ap (withCells ws) (mapTo-next i f (cellsOf ws) noCell in-cells))
 
-    pub to-keep : f (getD (cellsOf ws) i noCell) ≡ getD (cellsOf ws) i noCell
-        → withCells ws (mapTo i f (cellsOf ws)) ≡ withCells ws (mapTo (i + 1) f (cellsOf ws))
-    to-keep e = ap (withCells ws) (mapTo-keep i f (cellsOf ws) noCell in-cells e)
-
 pub to-none : (f : Cell → Cell) (ws : List ℕ) → ws ≡ withCells ws (mapTo 0 f (cellsOf ws))
 to-none f ws = sym (ap (withCells ws) (mapTo-none f (cellsOf ws)) ∙ with-cells ws)
 
 pub to-at : (f : Cell → Cell) (ws : List ℕ) (i : ℕ)
     → getD (cellsOf (withCells ws (mapTo i f (cellsOf ws)))) i noCell ≡ getD (cellsOf ws) i noCell
 to-at f ws i = rw cells-with (mapTo-at i f (cellsOf ws) noCell)
-
-pub to-length : (f : Cell → Cell) (ws : List ℕ) (i : ℕ) → length (withCells ws (mapTo i f (cellsOf ws))) ≡ length ws
-to-length f ws i = length-same ws (mapTo i f (cellsOf ws)) (length-mapTo i f (cellsOf ws))
 
 -- the end of a scan
 module _ (ws : List ℕ) (i : ℕ) (h : length ws / 4 ≤ i) where
@@ -92,10 +74,6 @@ module _ (ws : List ℕ) (i : ℕ) (h : length ws / 4 ≤ i) where
   pub has-end : (p : Cell → Bool) → hasCell p (drop i (cellsOf ws)) ≡ false
   unfolding hasCell
   has-end p = rw cells-end
-
-  pub newest-end : (p : Cell → Bool) (b : Cell) → newest p b (drop i (cellsOf ws)) ≡ b
-  unfolding newest
-  newest-end p b = rw cells-end
 
   pub to-end : (f : Cell → Cell) → withCells ws (mapTo i f (cellsOf ws)) ≡ withCells ws (map f (cellsOf ws))
   to-end f = ap (withCells ws) (mapTo-all i f (cellsOf ws) past-cells)

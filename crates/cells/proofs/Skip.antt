@@ -4,7 +4,7 @@
 --     to-over        the same for a loop that changes each cell in turn, where cells with another number stay as they are
 -- Assumes nothing.
 use mathlib.Core.Path.{_≡_, refl, sym, ap, _∙_}
-use mathlib.Core.Bool.{Bool, true, false, not, _&&_, _||_, true≢false}
+use mathlib.Core.Bool.{Bool, true, false, not, _&&_, _||_, and-false}
 use mathlib.Core.List.{List, [], _∷_}
 use Prim.Native.Nat.{ℕ, zero, suc, _+_, _-_, _≤_, _<_}
 use native.Mathlib.Omega.{arith}
@@ -16,16 +16,9 @@ use Rattle.cells.specs.declared.Cell.{Cell}
 use Rattle.cells.specs.Cells.{noCell, cellsOf, withCells, empty, own, committed}
 use Rattle.cells.specs.Rules.{hasCell, between}
 use Rattle.cells.specs.Search.{partOf, partIs, fourHave, NextAt}
+use Rattle.cells.proofs.Tests.{or-left, or-right}
 use Rattle.cells.proofs.Laws.{drop-next, mapTo, mapTo-later, mapTo-skip}
 use Rattle.cells.proofs.Words.{cells-with}
-
-or-left : (a b : Bool) → (a || b) ≡ false → a ≡ false
-or-left true b e = e
-or-left false b e = refl
-
-or-right : (a b : Bool) → (a || b) ≡ false → b ≡ false
-or-right true b e = absurd (true≢false e)
-or-right false b e = e
 
 -- what a test of a cell's part said, of what the cell equals
 pub part-told : (number : Bool) (word : ℕ) {c x : Cell} {r : ℕ} {t : Bool} → c ≡ x → r ≡ partOf number c → eqb r word ≡ t
@@ -102,13 +95,10 @@ pub between-other : (c : Cell) (view : ℕ) (d : Cell) → partIs false (c .word
 between-other c view d e = ap (λ (t : Bool). t && committed d && ltb (c .commit) (d .commit) && leb (d .commit) view) e
 
 -- a cell with another number is not own
-no-own : (a b c : Bool) → c ≡ false → (a && b && c) ≡ false
-no-own true true c e = e
-no-own true false c e = refl
-no-own false b c e = refl
-
 pub other-not-own : (number : ℕ) (c : Cell) → partIs true number c ≡ false → own number c ≡ false
-other-not-own number c e = no-own (not (empty c)) (eqb (c .commit) 0) (eqb (c .number) number) e
+other-not-own number c e =
+    let held = not (empty c) && eqb (c .commit) 0 in
+    ap (λ (t : Bool). held && t) e ∙ and-false held
 
 module _ (f : Cell → Cell) (number : ℕ) (stays : (c : Cell) → partIs true number c ≡ false → f c ≡ c) (ws : List ℕ) where
   -- from cell i on to the next one with the number nothing is to be changed

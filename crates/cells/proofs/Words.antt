@@ -4,12 +4,14 @@
 --     past-whole, whole-words    in whole cells no word stands past the last
 --     length-..                  how many words and cells there are
 --     cell-read, cell-write      what four reads and four stores at a cell's words are
+--     cell-past, write-past      the same for a number that no cell has
 -- Assumes nothing.
 use mathlib.Core.Path.{_≡_, refl, sym, ap, _∙_}
 use mathlib.Core.List.{List, [], _∷_, _++_}
-use Prim.Native.Nat.{ℕ, zero, suc, _+_, _*_, _/_, _%_, _<_}
+use Prim.Native.Nat.{ℕ, zero, suc, _+_, _*_, _/_, _%_, _≤_, _<_}
 use native.Mathlib.Omega.{arith}
-use lib.ListN.{length, getD, set}
+use lib.ListN.{length, getD, set, List·getD-eq-default}
+use lib.Seq.{set-out}
 use Rattle.cells.specs.declared.Cell.{Cell}
 use Rattle.cells.specs.Cells.{cellsOf, wordsOf, pastCells, withCells, noCell}
 
@@ -135,3 +137,14 @@ cell-write (a ∷ (b ∷ (c ∷ (d ∷ ws)))) (suc i) x h =
     let e : 4 * suc i ≡ suc (suc (suc (suc (4 * i)))) = omega arith in
     rw (over i 1, over i 2, over i 3, e)
     (ap (λ (r : List ℕ). a ∷ (b ∷ (c ∷ (d ∷ r)))) (cell-write ws i x (omega arith)))
+
+-- a number that no cell has: nothing is read there, and nothing written
+module _ (ws : List ℕ) (i : ℕ) (h : length ws / 4 ≤ i) where
+  past-cells : length (cellsOf ws) ≤ i
+  past-cells = rw length-cells h
+
+  pub cell-past : noCell ≡ getD (cellsOf ws) i noCell
+  cell-past = sym (List·getD-eq-default (cellsOf ws) noCell past-cells)
+
+  pub write-past : (c : Cell) → ws ≡ withCells ws (set (cellsOf ws) i c)
+  write-past c = sym (ap (withCells ws) (set-out (cellsOf ws) i c past-cells) ∙ with-cells ws)

@@ -1,14 +1,14 @@
-// The cells of a lane board: four lent words to a cell. Nobody else knows how wide a cell is.
+// The cells of a lane board: four lent words to a cell. Which word is which is known here alone; that there are four, also to whoever lends them.
 ghost use mathlib.Core.Path.{_≡_};
 ghost use mathlib.Core.List.{map};
 ghost use Prim.Native.Nat.{ℕ, _+_, _/_, _<_};
 ghost use lib.ListN.{length, getD, set};
 ghost use Rattle.cells.specs.Cells.{noCell, cellsOf, withCells, countOf, wholeCells};
 ghost use Rattle.cells.specs.Cells.{empty, ofKey, committed, own, foreign, seenBy};
-ghost use Rattle.cells.specs.Rules.{ownAt, newestSeen, conflict, foreignWith, hasCell, keeps, lookOf};
-ghost use Rattle.cells.specs.Rules.{mine, visible, blocks, foreignOf, clashes, valued, stamped, wiped, newer, between};
-ghost use Rattle.cells.specs.Search.{partOf, partIs, fourHave, NextAt, lowestOf, newestOf, noLook, lookTurn, raised, topsOf, anyCell, upTo};
-ghost use Rattle.cells.specs.Search.{outdatedBy, surpassedIn, heldIn};
+ghost use Rattle.cells.specs.Rules.{foreignWith, hasCell, keeps, lookOf};
+ghost use Rattle.cells.specs.Rules.{foreignOf, clashes, valued, stamped, wiped, newer, between};
+ghost use Rattle.cells.specs.Search.{partOf, partIs, fourHave, NextAt, lowestOf, newestOf, noLook, lookTurn};
+ghost use Rattle.cells.specs.Tables.{raised, topsOf, anyCell, upTo, outdatedBy, surpassedIn, heldIn};
 
 pub struct Cell {
     pub word: u32,
@@ -107,28 +107,7 @@ impl Cell {
         self.newer(d) && d.commit <= view
     }
 
-    // An own cell of the key. Most cells fail the first test, here and in the next three, and are asked no more
-    fn mine(self, key: u32, number: u32) -> bool
-        ensures { λ r. ⌜ r ≡ mine key number self ⌝ }
-    {
-        self.of_key(key) && self.own(number)
-    }
-
-    // A committed cell of the key with a commit number that is at most the view
-    fn visible(self, key: u32, view: u32) -> bool
-        ensures { λ r. ⌜ r ≡ visible key view self ⌝ }
-    {
-        self.of_key(key) && self.seen_by(view)
-    }
-
-    // A cell of the key that clashes
-    fn blocks(self, key: u32, number: u32, view: u32) -> bool
-        ensures { λ r. ⌜ r ≡ blocks key number view self ⌝ }
-    {
-        self.of_key(key) && self.clashes(number, view)
-    }
-
-    // A foreign cell of the key that has the other number
+    // A foreign cell of the key that has the other number. Most cells have another key, and are asked no more
     fn foreign_of(self, key: u32, number: u32, other: u32) -> bool
         ensures { λ r. ⌜ r ≡ foreignOf key number other self ⌝ }
     {
@@ -185,11 +164,13 @@ pub fn whole(words: usize, most: usize) -> bool
     (words % 4 == 0) & (1 <= words / 4) & (words / 4 <= most)
 }
 
-// The cell of a number
+// The cell of a number; four zeros for a number that no cell has
 pub fn cell_at(cells: &[u32], i: usize) -> Cell
-    requires { ⌜ i < countOf (length (now cells)) ⌝ }
     ensures { λ r. ⌜ r ≡ getD (cellsOf (now (cells .entry))) i noCell ⌝ }
 {
+    if count(cells) <= i {
+        return Cell::none();
+    }
     let w = 4 * i;
     Cell {
         word: cells[w],
@@ -199,61 +180,18 @@ pub fn cell_at(cells: &[u32], i: usize) -> Cell
     }
 }
 
-// One cell is written whole
+// One cell is written whole; for a number that no cell has every word stays
 pub fn put_cell(cells: &mut [u32], i: usize, c: Cell)
-    requires { ⌜ i < countOf (length (now cells)) ⌝ }
     ensures { λ r. ⌜ now (cells .exit) ≡ withCells (now (cells .entry)) (set (cellsOf (now (cells .entry))) i c) ⌝ }
 {
+    if count(cells) <= i {
+        return;
+    }
     let w = 4 * i;
     cells[w] = c.word;
     cells[w + 1] = c.value;
     cells[w + 2] = c.number;
     cells[w + 3] = c.commit;
-}
-
-// The lowest own cell of the key
-pub fn own_at(cells: &[u32], key: u32, number: u32) -> Found
-    ensures { λ r. ⌜ r ≡ ownAt key number (cellsOf (now (cells .entry))) ⌝ }
-{
-    let n = count(cells);
-    for i in 0..n {
-        let c = cell_at(cells, i);
-        if c.mine(key, number) {
-            return Found::At(i);
-        }
-    }
-    Found::Nothing
-}
-
-// The key's committed cell with the greatest commit number that is at most the view, the lowest on a tie
-pub fn newest_seen(cells: &[u32], key: u32, view: u32) -> Cell
-    ensures { λ r. ⌜ r ≡ newestSeen key view (cellsOf (now (cells .entry))) ⌝ }
-{
-    let n = count(cells);
-    let mut best = Cell::none();
-    let mut i = 0;
-    while i < n {
-        let c = cell_at(cells, i);
-        i += 1;
-        if c.visible(key, view) & (best.commit < c.commit) {
-            best = c;
-        }
-    }
-    best
-}
-
-// Whether the key has a foreign cell or a committed cell with a commit number above the view
-pub fn conflicts(cells: &[u32], key: u32, number: u32, view: u32) -> bool
-    ensures { λ r. ⌜ r ≡ conflict key number view (cellsOf (now (cells .entry))) ⌝ }
-{
-    let n = count(cells);
-    for i in 0..n {
-        let c = cell_at(cells, i);
-        if c.blocks(key, number, view) {
-            return true;
-        }
-    }
-    false
 }
 
 // Whether a foreign cell of the key has the other number

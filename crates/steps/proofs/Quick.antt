@@ -5,7 +5,7 @@
 --     held-if                           without a foreign cell no prepared writer holds a key back
 -- Assumes nothing.
 use mathlib.Core.Path.{_≡_, refl, sym, ap, _∙_}
-use mathlib.Core.Bool.{Bool, true, false, not, _&&_, _||_, true≢false, false≢true}
+use mathlib.Core.Bool.{Bool, true, false, not, _&&_, _||_, true≢false, false≢true, and-false, or-true}
 use mathlib.Core.List.{List, [], _∷_}
 use Prim.Native.Nat.{ℕ, zero, suc, _≤_, _<_}
 use native.Mathlib.Nat.{le-of-suc-le-suc, not-suc-le-zero}
@@ -57,29 +57,17 @@ keep-old p q {a} {b} e f t o = old-cases a b p q t (e ∙ o) f
 
 -- WHAT ITS VIEW TELLS
 
-pub and-left : (a b : Bool) → (a && b) ≡ true → a ≡ true
-and-left true b e = refl
-and-left false b e = e
-
-pub and-right : (a b : Bool) → (a && b) ≡ true → b ≡ true
-and-right true b e = e
-and-right false b e = absurd (false≢true e)
-
 no-place : (q : Place → Bool) (ps : List Place) → ((k : ℕ) → k < length ps → q (getD ps k idlePlace) ≡ false)
     → hasPlace q ps ≡ false
 unfolding hasPlace
 no-place q [] h = refl
 no-place q (p ∷ ps) h = λ i. h 0 (omega arith) i || no-place q ps (λ k l. h (suc k) (omega arith)) i
 
-or-true : (a b : Bool) → b ≡ true → (a || b) ≡ true
-or-true true b e = refl
-or-true false b e = e
-
 a-place : (q : Place → Bool) (ps : List Place) (k : ℕ) → k < length ps → q (getD ps k idlePlace) ≡ true → hasPlace q ps ≡ true
 unfolding hasPlace
 a-place q [] k l e = absurd (not-suc-le-zero l)
 a-place q (p ∷ ps) zero l e = ap (λ (b : Bool). b || hasPlace q ps) e
-a-place q (p ∷ ps) (suc k) l e = or-true (q p) (hasPlace q ps) (a-place q ps k (le-of-suc-le-suc l) e)
+a-place q (p ∷ ps) (suc k) l e = ap (λ (b : Bool). q p || b) (a-place q ps k (le-of-suc-le-suc l) e) ∙ or-true (q p)
 
 -- what passes one test passes another
 has-more : (p q : Cell → Bool) → ((d : Cell) → p d ≡ true → q d ≡ true) → (cs : List Cell) → hasCell p cs ≡ true
@@ -91,7 +79,7 @@ has-more p q f (d ∷ cs) e = by-first (p d) refl e (has-more p q f cs)
     by-first : (b : Bool) → p d ≡ b → (b || hasCell p cs) ≡ true → (hasCell p cs ≡ true → hasCell q cs ≡ true)
         → (q d || hasCell q cs) ≡ true
     by-first true g e rest = ap (λ (b : Bool). b || hasCell q cs) (f d g)
-    by-first false g e rest = or-true (q d) (hasCell q cs) (rest e)
+    by-first false g e rest = ap (λ (b : Bool). q d || b) (rest e) ∙ or-true (q d)
 
 -- a later view sees it too
 between-later : (c : Cell) (m W : ℕ) → m ≤ W → (d : Cell) → between c m d ≡ true → between c W d ≡ true
@@ -110,10 +98,6 @@ module _ (ps : List Place) (r : ℕ) (oldest : OldestAt ps r) (long : length ps 
       let seen = has-more (between c (getD ps r idlePlace .view)) (between c W)
       (between-later c (getD ps r idlePlace .view) W (oldest .least k (omega arith) o)) cs e in
       ap (λ (b : Bool). leb (c .commit) W && not b) seen ∙ and-false (leb (c .commit) W)
-    where
-      and-false : (a : Bool) → (a && false) ≡ false
-      and-false true = refl
-      and-false false = refl
 
   pub none-keep : hasCell (between c (getD ps r idlePlace .view)) cs ≡ true → hasPlace (keepsAt cs c) ps ≡ false
   none-keep e = no-place (keepsAt cs c) ps (λ k l. past-view e k l (isOpen (getD ps k idlePlace .state)) refl)

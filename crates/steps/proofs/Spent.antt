@@ -2,24 +2,19 @@
 --     place-turn, place-end   a scan of the places for one that passes a test
 --     and-is                  two tests in one
 --     free-is                 whether a cell is empty or spent, by four tests
---     free-inside             what the search finds is one of the cells
 -- Assumes nothing.
 use mathlib.Core.Path.{_≡_}
 use mathlib.Core.Bool.{Bool, false, not, _&&_, _||_}
 use mathlib.Core.List.{List}
 use Prim.Native.Nat.{ℕ, _+_, _≤_, _<_}
-use native.Mathlib.Omega.{arith}
 use lib.ListN.{length, getD, drop, drop-of-length-le}
 use Rattle.cells.specs.declared.Cell.{Cell}
-use Rattle.cells.specs.declared.Found.{Found}
-use Rattle.cells.specs.Cells.{cellsOf, countOf, empty, committed}
+use Rattle.cells.specs.Cells.{empty, committed}
 use Rattle.cells.specs.Rules.{hasCell, newer}
 use Rattle.cells.proofs.Laws.{drop-next}
-use Rattle.cells.proofs.Words.{length-cells}
-use Rattle.cells.proofs.Meaning.{lowest-found}
 use Rattle.steps.specs.declared.Place.{Place}
 use Rattle.steps.specs.Record.{idlePlace}
-use Rattle.steps.specs.Spent.{hasPlace, keepsAt, free, reusable}
+use Rattle.steps.specs.Spent.{hasPlace, keepsAt, free}
 
 module _ (q : Place → Bool) (ps : List Place) (j : ℕ) where
   pub place-turn : j < length ps → {t : Bool} → q (getD ps j idlePlace) ≡ t
@@ -37,8 +32,3 @@ and-is e f = λ j. e j && f j
 pub free-is : (ps : List Place) (cs : List Cell) (c : Cell) {e b o h : Bool} → empty c ≡ e → committed c ≡ b
     → hasCell (newer c) cs ≡ o → hasPlace (keepsAt cs c) ps ≡ h → free ps cs c ≡ (e || (b && o && not h))
 free-is ps cs c p q r s = λ j. p j || (q j && r j && not (s j))
-
-pub free-inside : (ps : List Place) (ws : List ℕ) (i : ℕ) → reusable ps (cellsOf ws) ≡ Found.At i
-    → i < countOf (length ws)
-unfolding reusable
-free-inside ps ws i e = omega (arith, lowest-found (free ps (cellsOf ws)) (cellsOf ws) i e .inside, length-cells ws)

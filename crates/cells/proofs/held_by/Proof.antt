@@ -1,6 +1,6 @@
 use borrow.Author.Needs.{needs}
-use Rattle.cells.specs.Search.{heldIn}
-use Rattle.cells.proofs.Table.{in-table, past-table}
+use Rattle.cells.specs.Tables.{heldIn}
+use Rattle.cells.proofs.Tables.{in-table, past-table}
 use Rattle.cells.proofs.held_by.Statement.{statement}
 use Rattle.cells.proofs.held_by.Tie as tie
 

@@ -1,7 +1,7 @@
 use borrow.Author.Needs.{needs}
 use mathlib.Core.Path.{_∙_}
-use Rattle.cells.specs.Search.{outdatedBy}
-use Rattle.cells.proofs.Table.{in-table, past-table}
+use Rattle.cells.specs.Tables.{outdatedBy}
+use Rattle.cells.proofs.Tables.{in-table, past-table}
 use Rattle.cells.proofs.outdated_by.Statement.{statement}
 use Rattle.cells.proofs.outdated_by.Tie as tie
 

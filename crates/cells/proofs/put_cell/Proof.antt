@@ -1,67 +1,46 @@
 use borrow.Author.Needs.{needs}
 use native.Mathlib.Omega.{arith}
 use lib.ListN.{length-set}
-use Rattle.cells.proofs.Words.{cell-write}
+use Rattle.cells.proofs.Words.{cell-write, write-past}
 use Rattle.cells.proofs.put_cell.Statement.{statement}
 use Rattle.cells.proofs.put_cell.Tie as tie
 
-mul-w : tie.Need-mul-w
-mul-w c = search needs
+-- no cell has the number
+returns : tie.Need-returns
+returns c = write-past _ _ (search needs) _
 
-mul-cells : tie.Need-mul-cells
-mul-cells c = search needs
-
-slice-write-cells : tie.Need-slice-write-cells
-slice-write-cells c = search needs
-
-add-cells : tie.Need-add-cells
-add-cells c = search needs
-
-mul-cells-2 : tie.Need-mul-cells-2
-mul-cells-2 c = search needs
-
+-- the second, third and fourth word are there still
 slice-write-cells-2 : tie.Need-slice-write-cells-2
 slice-write-cells-2 c = simp length-set (omega arith)
-
-add-cells-2 : tie.Need-add-cells-2
-add-cells-2 c = search needs
-
-mul-cells-3 : tie.Need-mul-cells-3
-mul-cells-3 c = search needs
 
 slice-write-cells-3 : tie.Need-slice-write-cells-3
 slice-write-cells-3 c = simp length-set (omega arith)
 
-add-cells-3 : tie.Need-add-cells-3
-add-cells-3 c = search needs
-
-mul-cells-4 : tie.Need-mul-cells-4
-mul-cells-4 c = search needs
-
 slice-write-cells-4 : tie.Need-slice-write-cells-4
 slice-write-cells-4 c = simp length-set (omega arith)
 
-same-length : tie.Need-same-length
-same-length c = search needs
-
-returns : tie.Need-returns
-returns c = cell-write _ _ _ (c .pre)
+-- the four words of the cell
+returns-2 : tie.Need-returns-2
+returns-2 c = cell-write _ _ _ (search needs)
 
 pub put-cell-spec : {M : Type 1} → statement M
 put-cell-spec =
     tie.close
     (tie.spec
-    mul-w
-    mul-cells
-    slice-write-cells
-    add-cells
-    mul-cells-2
+    (λ c κs. search needs)
+    (λ c. search needs)
+    returns
+    (λ c. search needs)
+    (λ c. search needs)
+    (λ c. search needs)
+    (λ c. search needs)
+    (λ c. search needs)
     slice-write-cells-2
-    add-cells-2
-    mul-cells-3
+    (λ c. search needs)
+    (λ c. search needs)
     slice-write-cells-3
-    add-cells-3
-    mul-cells-4
+    (λ c. search needs)
+    (λ c. search needs)
     slice-write-cells-4
-    same-length
-    returns)
+    (λ c. search needs)
+    returns-2)

@@ -6,8 +6,8 @@ use mathlib.Core.Bool.{Bool, true, false, cond}
 use Prim.Native.Nat.{ℕ, _+_, _-_, _≤_}
 use lib.ListN.{length, drop}
 use Rattle.cells.specs.Cells.{cellsOf}
-use Rattle.cells.specs.Search.{topsFrom, topsOf, anyCell, upTo, raised}
-use Rattle.cells.proofs.Table.{tops-next, tops-end, uncommitted-leaves}
+use Rattle.cells.specs.Tables.{topsFrom, topsOf, anyCell, upTo, raised}
+use Rattle.cells.proofs.Tables.{tops-next, tops-end, uncommitted-leaves}
 use Rattle.cells.proofs.tops_of.Statement.{statement}
 use Rattle.cells.proofs.tops_of.Tie as tie
 

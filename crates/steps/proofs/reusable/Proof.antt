@@ -8,18 +8,20 @@ use Prim.Native.Nat.{ℕ, _+_, _-_, _≤_}
 use native.Mathlib.Omega.{arith}
 use borrow.Author.Needs.{needs}
 use borrow.Author.Tests.{not-true, not-false}
+use lib.Dec.{ltb}
 use lib.ListN.{length, getD, drop}
 use Rattle.cells.specs.declared.Found.{Found}
 use Rattle.cells.specs.declared.Tops.{Tops}
 use Rattle.cells.specs.Cells.{cellsOf, empty}
-use Rattle.cells.specs.Rules.{lowestFrom, hasCell, newer}
-use Rattle.cells.specs.Search.{outdatedBy, surpassedIn, heldIn}
+use Rattle.cells.specs.Rules.{lowestFrom, hasCell, between, keeps}
+use Rattle.cells.specs.Tables.{allTops, outdatedBy, surpassedIn, heldIn}
 use Rattle.cells.proofs.Scan.{lowest-here, lowest-next, lowest-end}
-use Rattle.cells.proofs.Table.{outdated-is, surpassed-is, held-is}
+use Rattle.cells.proofs.Tables.{tables-tell}
 use Rattle.steps.specs.Record.{allPlaces, idlePlace}
 use Rattle.steps.specs.Spent.{hasPlace, keepsAt, free, reusable}
 use Rattle.steps.proofs.Spent.{place-turn, place-end, and-is, free-is}
-use Rattle.steps.proofs.Quick.{none-keep, some-keeps, and-left, and-right}
+use Rattle.steps.proofs.Tests.{and-left, and-right}
+use Rattle.steps.proofs.Quick.{none-keep, some-keeps}
 use Rattle.steps.proofs.reusable.Statement.{statement}
 use Rattle.steps.proofs.reusable.Tie as tie
 
@@ -95,7 +97,7 @@ kept-or-free c h e =
     let cs = cellsOf (a .cells .now) in
     let x = k .cell-at .result in
     let told = ap (λ (t : Tops). outdatedBy (t .all) cs x) (k .before .before .before .before .before .tops-of .ensures) in
-    let old = sym (outdated-is cs x (filled c)) ∙ sym told ∙ sym (c .before .outdated-by .ensures) ∙ not-false _ (c .if3 .left) in
+    let old = sym (tables-tell cs x (filled c) .outdated) ∙ sym told ∙ sym (c .before .outdated-by .ensures) ∙ not-false _ (c .if3 .left) in
     free-is (a .t2) cs x (filled c) (sym (c .before .before .before .before .committed .ensures) ∙ not-false _ (c .before .before .before .if2 .left)) old e
 
 array-copy-out-oldest : tie.Need-array-copy-out-oldest Inv-places μ-places Inv-cells μ-cells
@@ -131,7 +133,7 @@ cells-again-2 c =
     let e = sym (c .before .before .before .before .before .before .«empty» .ensures) ∙ c .before .before .before .before .before .if1 .left in
     let f = sym (c .before .before .before .before .committed .ensures) ∙ not-false _ (c .before .before .before .if2 .left) in
     let told = ap (λ (t : Tops). outdatedBy (t .all) cs x) (k .before .before .before .before .before .tops-of .ensures) in
-    let g = sym (outdated-is cs x e) ∙ sym told ∙ sym (c .before .outdated-by .ensures) ∙ not-true _ (c .if3 .taken) in
+    let g = sym (tables-tell cs x e .outdated) ∙ sym told ∙ sym (c .before .outdated-by .ensures) ∙ not-true _ (c .if3 .taken) in
     (search needs, next k (free-is (a .t2) cs x e f g refl))
 
 returns-2 : tie.Need-returns-2 Inv-places μ-places Inv-cells μ-cells
@@ -144,8 +146,9 @@ returns-2 c =
     let o = k .before .before .before .before .before .before .before .oldest-open in
     let h = long (begun k) in
     let told = ap (λ (t : Tops). surpassedIn (t .seen) x) (k .before .before .before .before .before .tops-of .ensures) in
+    let view = getD (a .t2) (o .result) idlePlace .view in
     let e = sym told ∙ sym (c .before .surpassed .ensures) ∙ c .if4 .taken in
-    let past = surpassed-is cs x (filled old) (getD (a .t2) (o .result) idlePlace .view) e in
+    let past = and-right (ltb (x .word) allTops) (hasCell (between x view) cs) (sym (tables-tell cs x (filled old) .surpassed view) ∙ e) in
     here k (kept-or-free old false (none-keep (a .t2) (o .result) (o .ensures) h cs x past))
 
 cells-again-3 : tie.Need-cells-again-3 Inv-places μ-places Inv-cells μ-cells
@@ -163,7 +166,7 @@ cells-again-3 c =
     let v = c .before .held-by in
     let e = sym told ∙ sym (v .ensures) ∙ and-right (u .result) (v .result) (c .if5 .taken) in
     let is-open = sym (u .ensures) ∙ and-left (u .result) (v .result) (c .if5 .taken) in
-    let held = held-is cs x (filled old) (p .view) e in
+    let held = and-right (ltb (x .word) allTops) (keeps cs x (p .view)) (sym (tables-tell cs x (filled old) .held (p .view)) ∙ e) in
     let kept = some-keeps (a .t2) (o .result) (o .ensures) h cs x is-open held in
     (search needs, next k (kept-or-free old true kept))
 

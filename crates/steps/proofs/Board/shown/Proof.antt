@@ -7,7 +7,6 @@ use Rattle.cells.specs.declared.Found.{Found}
 use Rattle.cells.specs.declared.Looked.{Looked}
 use Rattle.cells.specs.Cells.{cellsOf}
 use Rattle.cells.specs.Rules.{ownAt}
-use Rattle.cells.proofs.Meaning.{own-inside}
 use Rattle.steps.specs.Spent.{heldBack}
 use Rattle.steps.specs.Store.{lent}
 use Rattle.steps.specs.Step.{numberAt}
@@ -39,11 +38,6 @@ held-of n e f =
     let seen = ap (λ (l : Looked). l .foreign && held) (n .before .before .look .ensures) in
     sym (held-if (a .key) (numberAt (a .t1) (a .at)) (a .t1 .places) cs) ∙ sym seen ∙ sym e ∙ f
 
-cell-at-requires : tie.Need-cell-at-requires
-cell-at-requires c κs =
-    let a = c .before .before .before .before .before .before .args in
-    own-inside (a .key) (numberAt (a .t1) (a .at)) (a .cells .now) _ (found c)
-
 returns : tie.Need-returns
 returns c =
     let f = c .before in
@@ -73,7 +67,7 @@ shown-spec =
     (λ c. search needs)
     (λ c κs. search needs)
     (λ c. search needs)
-    cell-at-requires
+    (λ c κs. search needs)
     returns
     (λ c. search needs)
     (λ c κs. search needs)

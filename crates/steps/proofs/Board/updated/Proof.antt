@@ -6,7 +6,6 @@ use Rattle.cells.specs.declared.Found.{Found}
 use Rattle.cells.specs.declared.Looked.{Looked}
 use Rattle.cells.specs.Cells.{cellsOf}
 use Rattle.cells.specs.Rules.{ownAt}
-use Rattle.cells.proofs.Meaning.{own-inside}
 use Rattle.steps.specs.Store.{lent}
 use Rattle.steps.specs.Step.{numberAt}
 use Rattle.steps.proofs.Ends.{update-own, update-clash, update-new}
@@ -23,18 +22,6 @@ none : (c : tie.After-enum-told)
     → (let a = c .before .before .before .before .before .before .args in
     ownAt (a .key) (numberAt (a .t1) (a .at)) (cellsOf (a .cells .now)) ≡ Found.Nothing)
 none c = sym (ap (λ (l : Looked). l .own) (c .before .before .look .ensures)) ∙ c .enum-told .given .1
-
-cell-at-requires : tie.Need-cell-at-requires
-cell-at-requires c κs =
-    let f = c .before in
-    let a = f .before .before .before .before .before .before .before .args in
-    own-inside (a .key) (numberAt (a .t1) (a .at)) (a .cells .now) _ (found f)
-
-put-cell-requires : tie.Need-put-cell-requires
-put-cell-requires c κs =
-    let f = c .before .before .before .before in
-    let a = f .before .before .before .before .before .before .before .args in
-    own-inside (a .key) (numberAt (a .t1) (a .at)) (a .cells .now) _ (found f)
 
 returns : tie.Need-returns
 returns c =
@@ -67,9 +54,9 @@ updated-spec =
     (λ c. search needs)
     (λ c κs. search needs)
     (λ c. search needs)
-    cell-at-requires
     (λ c κs. search needs)
-    put-cell-requires
+    (λ c κs. search needs)
+    (λ c κs. search needs)
     (λ c κs. search needs)
     (λ c. search needs)
     returns

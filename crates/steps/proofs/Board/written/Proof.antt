@@ -7,7 +7,6 @@ use Rattle.cells.specs.declared.Found.{Found}
 use Rattle.cells.specs.Cells.{cellsOf}
 use Rattle.steps.specs.Spent.{reusable}
 use Rattle.steps.specs.Store.{lent}
-use Rattle.steps.proofs.Spent.{free-inside}
 use Rattle.steps.proofs.Ends.{write-free, write-full}
 use Rattle.steps.proofs.Board.written.Statement.{statement}
 use Rattle.steps.proofs.Board.written.Tie as tie
@@ -24,12 +23,6 @@ returns c =
     let a = k .before .before .before .before .args in
     write-full (lent (a .self) (a .cells .now)) (a .number) (a .key) (a .value) (sym (k .reusable .ensures) ∙ c .before .enum-told .given .1)
     (c .with .ensures)
-
-put-cell-requires : tie.Need-put-cell-requires
-put-cell-requires c κs =
-    let f = c .before in
-    let a = f .before .before .before .before .before .before .before .args in
-    free-inside (a .self .places) (a .cells .now) _ (room f)
 
 returns-2 : tie.Need-returns-2
 returns-2 c =
@@ -49,7 +42,7 @@ written-spec =
     (λ c. search needs)
     returns
     (λ c. search needs)
-    put-cell-requires
+    (λ c κs. search needs)
     (λ c κs. search needs)
     (λ c. search needs)
     returns-2)

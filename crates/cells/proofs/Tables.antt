@@ -1,7 +1,7 @@
--- The tables of newest numbers: what a turn of their pass does, and what they tell of a cell.
+-- The tables of newest numbers: what a turn of their pass does, and that they keep their promise, `tables-tell`.
 -- Assumes nothing.
 use mathlib.Core.Path.{_≡_, refl, sym, ap, _∙_}
-use mathlib.Core.Bool.{Bool, true, false, cond, not, _&&_, _||_, false≢true}
+use mathlib.Core.Bool.{Bool, true, false, cond, not, _&&_, _||_, false≢true, and-false, and-comm, or-false, or-assoc}
 use mathlib.Core.List.{List, [], _∷_}
 use Prim.Native.Nat.{ℕ, _+_, _/_, _≤_, _<_}
 use native.Mathlib.Omega.{arith}
@@ -12,8 +12,8 @@ use lib.Seq.{getD-set-same, getD-set-other}
 use Rattle.cells.specs.declared.Cell.{Cell}
 use Rattle.cells.specs.Cells.{noCell, cellsOf, empty, committed}
 use Rattle.cells.specs.Rules.{hasCell, newer, between, keeps}
-use Rattle.cells.specs.Search.{allTops, raised, raisedBy, topsFrom, topsOf, anyCell, upTo}
-use Rattle.cells.specs.Search.{outdatedBy, surpassedIn, heldIn}
+use Rattle.cells.specs.Tables.{allTops, raised, raisedBy, topsFrom, topsOf, anyCell, upTo}
+use Rattle.cells.specs.Tables.{outdatedBy, surpassedIn, heldIn, TablesTell}
 use Rattle.cells.proofs.Scan.{cells-next, cells-end}
 
 -- THE PASS
@@ -36,11 +36,7 @@ module _ (t : List ℕ) (w n : ℕ) where
   raise-none : n ≡ 0 → t ≡ raised t w n
   raise-none e =
       let below : ltb (getD t w 0) n ≡ false = le-ltb (getD t w 0) n (omega arith) in
-      sym ((λ i. chosen (ltb w allTops && below i)) ∙ ap chosen (and-none (ltb w allTops)))
-    where
-      and-none : (a : Bool) → (a && false) ≡ false
-      and-none true = refl
-      and-none false = refl
+      sym ((λ i. chosen (ltb w allTops && below i)) ∙ ap chosen (and-false (ltb w allTops)))
 
   length-raised : length (raised t w n) ≡ length t
   length-raised = same (ltb w allTops && ltb (getD t w 0) n)
@@ -93,10 +89,6 @@ higher-first : (n a b : ℕ) (t : Bool) → ltb n a ≡ t → b ≤ a → t ≡ 
 higher-first n a b true e h = refl
 higher-first n a b false e h = sym (le-ltb n b (omega (arith, ltb-false n a e)))
 
-or-false : (a : Bool) → a ≡ (a || false)
-or-false true = refl
-or-false false = refl
-
 -- after one more number a word's is above n if it was, or if the number is the word's and above n
 module _ (t : List ℕ) (w n : ℕ) (g : w < allTops) (h : w < length t) (v m : ℕ) where
   abbrev at : Bool → ℕ
@@ -121,7 +113,7 @@ module _ (t : List ℕ) (w n : ℕ) (g : w < allTops) (h : w < length t) (v m : 
       let inside : ltb v allTops ≡ true = lt-ltb v allTops (omega arith) in
       ap (λ (b : Bool). ltb n (at (b && ltb (getD t v 0) m))) inside ∙ raised-here (ltb (getD t v 0) m) refl q
   raised-at false e =
-      raised-other (ltb v allTops && ltb (getD t v 0) m) (eqb-false v w e) ∙ or-false (ltb n (getD t w 0))
+      raised-other (ltb v allTops && ltb (getD t v 0) m) (eqb-false v w e) ∙ sym (or-false (ltb n (getD t w 0)))
 
 -- a cell of that first word that passes the test, with a number above n
 abbrev over : (Cell → Bool) → ℕ → ℕ → Cell → Bool
@@ -132,20 +124,16 @@ module _ (p : Cell → Bool) (w n : ℕ) (g : w < allTops) where
       → ltb n (getD (cond b (raised t (c .word) (c .commit)) t) w 0)
       ≡ (ltb n (getD t w 0) || (b && (eqb (c .word) w && ltb n (c .commit))))
   by-at t c h true = raised-at t w n g h (c .word) (c .commit) (eqb (c .word) w) refl
-  by-at t c h false = or-false (ltb n (getD t w 0))
+  by-at t c h false = sym (or-false (ltb n (getD t w 0)))
 
   length-by : (t : List ℕ) (c : Cell) (b : Bool) → length (cond b (raised t (c .word) (c .commit)) t) ≡ length t
   length-by t c true = length-raised t (c .word) (c .commit)
   length-by t c false = refl
 
-  or-assoc : (a b c : Bool) → (a || b || c) ≡ (a || (b || c))
-  or-assoc true b c = refl
-  or-assoc false b c = refl
-
   tops-at : (cs : List Cell) (t : List ℕ) → w < length t
       → ltb n (getD (topsFrom p t cs) w 0) ≡ (ltb n (getD t w 0) || hasCell (over p w n) cs)
   unfolding topsFrom hasCell
-  tops-at [] t h = or-false (ltb n (getD t w 0))
+  tops-at [] t h = sym (or-false (ltb n (getD t w 0)))
   tops-at (c ∷ cs) t h =
       let same = length-by t c (p c) in
       tops-at cs (raisedBy p t c) (omega arith)
@@ -169,13 +157,9 @@ has-same p q e (d ∷ cs) = λ i. e d i || has-same p q e cs i
 
 -- what is higher than a nonempty cell of its first word is a committed cell of its key
 module _ (c d : Cell) (e : empty c ≡ false) where
-  and-false : (a : Bool) → false ≡ (a && false)
-  and-false true = refl
-  and-false false = refl
-
   by-word : (a b : Bool) → eqb (d .word) (c .word) ≡ a → ltb (c .commit) (d .commit) ≡ b → (a && b) ≡ (a && committed d && b)
   by-word false b p q = refl
-  by-word true false p q = and-false (committed d)
+  by-word true false p q = sym (and-false (committed d))
   by-word true true p q =
       let same = eqb-true (d .word) (c .word) p in
       let filled : empty d ≡ false = ne-eqb (d .word) 0 (λ z. eqb-false (c .word) 0 e (sym same ∙ z)) in
@@ -185,20 +169,14 @@ module _ (c d : Cell) (e : empty c ≡ false) where
   over-newer : over anyCell (c .word) (c .commit) d ≡ newer c d
   over-newer = by-word (eqb (d .word) (c .word)) (ltb (c .commit) (d .commit)) refl refl
 
-  and-turn : (a b : Bool) → (a && b) ≡ (b && a)
-  and-turn true true = refl
-  and-turn true false = refl
-  and-turn false true = refl
-  and-turn false false = refl
-
   over-between : (view : ℕ) → over (upTo view) (c .word) (c .commit) d ≡ between c view d
   over-between view =
-      and-turn (upTo view d) (eqb (d .word) (c .word) && ltb (c .commit) (d .commit))
+      and-comm (upTo view d) (eqb (d .word) (c .word) && ltb (c .commit) (d .commit))
       ∙ ap (λ (b : Bool). b && upTo view d) over-newer
 
--- the tables of a board tell of every nonempty cell whether it is outdated, and whether a view keeps it
+-- the promise: the tables of a board tell of every nonempty cell whether it is outdated, and whether a view keeps it
 module _ (cs : List Cell) (c : Cell) (e : empty c ≡ false) where
-  pub outdated-is : outdatedBy (topsOf anyCell cs) cs c ≡ hasCell (newer c) cs
+  outdated-is : outdatedBy (topsOf anyCell cs) cs c ≡ hasCell (newer c) cs
   unfolding outdatedBy
   outdated-is = by-size (ltb (c .word) allTops) refl
     where
@@ -216,21 +194,24 @@ module _ (cs : List Cell) (c : Cell) (e : empty c ≡ false) where
         tops-tell (upTo view) (c .word) (c .commit) (ltb-true (c .word) allTops p) cs
         ∙ has-same (over (upTo view) (c .word) (c .commit)) (between c view) (λ d. over-between c d e view) cs
 
-    pub surpassed-is : surpassedIn (topsOf (upTo view) cs) c ≡ true → hasCell (between c view) cs ≡ true
+    surpassed-is : surpassedIn (topsOf (upTo view) cs) c ≡ (ltb (c .word) allTops && hasCell (between c view) cs)
     unfolding surpassedIn
     surpassed-is = by-size (ltb (c .word) allTops) refl
       where
         by-size : (b : Bool) → ltb (c .word) allTops ≡ b
-            → cond b (ltb (c .commit) (getD (topsOf (upTo view) cs) (c .word) 0)) false ≡ true → hasCell (between c view) cs ≡ true
-        by-size false p q = absurd (false≢true q)
-        by-size true p q = sym (passed-is p) ∙ q
+            → cond b (ltb (c .commit) (getD (topsOf (upTo view) cs) (c .word) 0)) false ≡ (b && hasCell (between c view) cs)
+        by-size false p = refl
+        by-size true p = passed-is p
 
-    pub held-is : heldIn (topsOf (upTo view) cs) c view ≡ true → keeps cs c view ≡ true
+    held-is : heldIn (topsOf (upTo view) cs) c view ≡ (ltb (c .word) allTops && keeps cs c view)
     unfolding heldIn
     held-is = by-size (ltb (c .word) allTops) refl
       where
         by-size : (b : Bool) → ltb (c .word) allTops ≡ b
-            → cond b (leb (c .commit) view && not (ltb (c .commit) (getD (topsOf (upTo view) cs) (c .word) 0))) false ≡ true
-            → keeps cs c view ≡ true
-        by-size false p q = absurd (false≢true q)
-        by-size true p q = sym (ap (λ (b : Bool). leb (c .commit) view && not b) (passed-is p)) ∙ q
+            → cond b (leb (c .commit) view && not (ltb (c .commit) (getD (topsOf (upTo view) cs) (c .word) 0))) false
+            ≡ (b && keeps cs c view)
+        by-size false p = refl
+        by-size true p = ap (λ (b : Bool). leb (c .commit) view && not b) (passed-is p)
+
+  pub tables-tell : TablesTell cs c
+  tables-tell = record { outdated = outdated-is; surpassed = surpassed-is; held = held-is }
