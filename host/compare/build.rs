@@ -1,5 +1,5 @@
 //! Plants each of document 01's four shortcuts (shortcuts/) in a copy of the twin, as a module of its own; with the
-//! feature `misreadings` also each of some seventy misreadings of its sentences (misreadings/).
+//! feature `misreadings` also each misreading of its sentences (misreadings/).
 //!
 //! An edit has `file:` lines, each followed by pairs of `old:` and `new:` lines; an `old:` text must occur exactly once
 //! in the file, so that an edit which no longer fits the twin stops the build.

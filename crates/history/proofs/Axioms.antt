@@ -1,4 +1,5 @@
 -- Document 001's axioms hold of the ledger of every history that begins with a fresh board.
+--     any-pairs              those that hold of the ledger of any pairs, whatever answered
 --     snapshot-isolation     all of them
 -- Assumes nothing.
 use mathlib.Core.Path.{_≡_, refl, sym, ap, _∙_, subst}
@@ -15,8 +16,10 @@ use borrow.Author.Tests.{eqb-true}
 use Rattle.history.specs.History.{Event, read, write, lastWrite, Done, Ledger, doneAt, ledger, fromFresh}
 use Rattle.history.specs.Axioms.{Tx, initial, nth, In, Writes, WritesTo, lastOn, VIS, AR}
 use Rattle.history.specs.Axioms.{Int, Latest, Ext, Prefix, NoConflict, RealtimeSnapshot, CommitBefore, SnapshotIsolation, Isolated}
+use Rattle.history.specs.Axioms.{AsMade, AnyPairs}
 use Rattle.history.proofs.Basics.{cases, eq?, lt?, none?, none-some}
 use Rattle.history.proofs.Leave.{wroteAt, leave-none, leave-last}
+use Rattle.history.proofs.Timed.{Timed, timed}
 use Rattle.history.proofs.Fair.{Told, snapshot, Fair}
 use Rattle.history.proofs.Demand.{at-end}
 
@@ -91,21 +94,22 @@ last-writer D k (suc w) = cases (none? (wroteAt D w k))
     })))
     (λ s. inr (record { nth = w; below = omega arith; value = s .0; wrote = s .1; last = λ m h h′. absurd (omega arith) }))
 
-module _ (L : Ledger) (f : Fair L) where
+-- WHATEVER ANSWERED
+module _ (L : Ledger) (t : Timed L) where
   -- VIS is within AR, by commit numbers
   earlier-commit : (i j : ℕ) → j < length (L .past) → i < doneAt L j .seen → i < j
-  earlier-commit i j h v = omega (arith, f .dones j h .saw)
+  earlier-commit i j h v = omega (arith, t .dones j h .few)
 
   -- DEFINITION 5
   vis-irreflexive : (T : Tx) → In L T → VIS L T T → ⊥
   vis-irreflexive initial h v = v
-  vis-irreflexive (nth j) h v = omega (arith, f .dones j h .saw)
+  vis-irreflexive (nth j) h v = omega (arith, t .dones j h .few)
 
   vis-transitive : (S T U : Tx) → In L S → In L T → In L U → VIS L S T → VIS L T U → VIS L S U
   vis-transitive S T initial hs ht hu v w = w
   vis-transitive S initial (nth j) hs ht hu v w = absurd v
   vis-transitive initial (nth i) (nth j) hs ht hu v w = tt
-  vis-transitive (nth m) (nth i) (nth j) hs ht hu v w = omega (arith, f .dones i ht .saw)
+  vis-transitive (nth m) (nth i) (nth j) hs ht hu v w = omega (arith, t .dones i ht .few)
 
   ar-irreflexive : (T : Tx) → In L T → AR L T T → ⊥
   ar-irreflexive initial h v = v
@@ -130,6 +134,48 @@ module _ (L : Ledger) (f : Fair L) where
   vis-within (nth i) (nth j) hs ht v = earlier-commit i j ht v
 
   -- THE AXIOMS
+  prefix : Prefix L
+  prefix R S initial hr hs ht a v = v
+  prefix R initial (nth j) hr hs ht a v = absurd a
+  prefix initial (nth i) (nth j) hr hs ht a v = tt
+  prefix (nth m) (nth i) (nth j) hr hs ht a v = omega arith
+
+  realtime : RealtimeSnapshot L
+  realtime S initial hs ht = (λ v. v, λ v. v)
+  realtime initial (nth j) hs ht = (λ v. tt, λ v. tt)
+  realtime (nth i) (nth j) hs ht = (
+    λ v. t .dones j ht .before i v,
+    λ v. cases (lt? i (doneAt L j .seen)) (λ g. g) (λ g. absurd (omega (arith, v, t .dones j ht .after i g hs))),
+  )
+
+  commit-before : CommitBefore L
+  commit-before S initial hs ht c = c
+  commit-before initial (nth j) hs ht c = tt
+  commit-before (nth i) (nth j) hs ht c = cases (lt? i j) (λ h. h)
+      (λ h. cases (eq? i j)
+      (λ e. absurd (let z = ap (λ (m : ℕ). doneAt L m .ended) e in omega (arith, c, z)))
+      (λ e. absurd (omega (arith, c, t .order j i (omega arith) hs))))
+
+  as-made : AsMade L
+  as-made =
+      record {
+        execution =
+            record {
+              vis = record { irreflexive = vis-irreflexive; transitive = vis-transitive };
+              ar = record { irreflexive = ar-irreflexive; transitive = ar-transitive };
+              total = ar-total;
+              within = vis-within;
+            };
+        prefix = prefix;
+        realtime = realtime;
+        commitBefore = commit-before;
+      }
+
+pub any-pairs : AnyPairs
+any-pairs hs = as-made (ledger hs) (timed hs)
+
+-- WHERE THE STORE IS FAIR
+module _ (L : Ledger) (t : Timed L) (f : Fair L) where
   int : Int L
   int initial h later earlier k v u e g = no-events later earlier (read k v) e
   int (nth j) h later earlier k v u e g =
@@ -148,7 +194,7 @@ module _ (L : Ledger) (f : Fair L) where
       ))
       (λ r. (
         nth (r .nth),
-        record { inside = omega (arith, r .below, f .dones j h .saw); seen = r .below; last = before r },
+        record { inside = omega (arith, r .below, t .dones j h .few); seen = r .below; last = before r },
         r .wrote ∙ ap some (sym (e ∙ leave-last (doneAt L j .seen) (L .past) k (r .nth) (r .value) (r .below) (r .wrote) (r .last))),
       ))
     where
@@ -171,12 +217,6 @@ module _ (L : Ledger) (f : Fair L) where
       let t = told-at base (r .later) (r .earlier) k v (subst (λ (es : List Event). Told base es) (r .event) (f .dones j h .told)) in
       latest j k v h (t .0 ∙ rw (untouched (r .earlier) k (r .first)))
 
-  prefix : Prefix L
-  prefix R S initial hr hs ht a v = v
-  prefix R initial (nth j) hr hs ht a v = absurd a
-  prefix initial (nth i) (nth j) hr hs ht a v = tt
-  prefix (nth m) (nth i) (nth j) hr hs ht a v = omega arith
-
   one-sees : (i j k : ℕ) → i < j → j < length (L .past) → WritesTo L (nth i) k → WritesTo L (nth j) k → i < doneAt L j .seen
   one-sees i j k h l w w′ = cases (lt? i (doneAt L j .seen)) (λ g. g) (λ g. absurd (f .dones j l .apart i k g h w w′))
 
@@ -188,39 +228,20 @@ module _ (L : Ledger) (f : Fair L) where
       (λ h. inl (one-sees i j k h ht w w′))
       (λ h. cases (eq? i j) (λ e. absurd (d (ap nth e))) (λ e. inr (one-sees j i k (omega arith) hs w′ w)))
 
-  realtime : RealtimeSnapshot L
-  realtime S initial hs ht = (λ v. v, λ v. v)
-  realtime initial (nth j) hs ht = (λ v. tt, λ v. tt)
-  realtime (nth i) (nth j) hs ht = (
-    λ v. f .dones j ht .before i v,
-    λ v. cases (lt? i (doneAt L j .seen)) (λ g. g) (λ g. absurd (omega (arith, v, f .dones j ht .after i g hs))),
-  )
-
-  commit-before : CommitBefore L
-  commit-before S initial hs ht c = c
-  commit-before initial (nth j) hs ht c = tt
-  commit-before (nth i) (nth j) hs ht c = cases (lt? i j) (λ h. h)
-      (λ h. cases (eq? i j)
-      (λ e. absurd (let z = ap (λ (m : ℕ). doneAt L m .ended) e in omega (arith, c, z)))
-      (λ e. absurd (omega (arith, c, f .order j i (omega arith) hs))))
-
   isolated : SnapshotIsolation L
   isolated =
+      let m = as-made L t in
       record {
-        execution =
-            record {
-              vis = record { irreflexive = vis-irreflexive; transitive = vis-transitive };
-              ar = record { irreflexive = ar-irreflexive; transitive = ar-transitive };
-              total = ar-total;
-              within = vis-within;
-            };
+        execution = m .execution;
         int = int;
         ext = ext;
-        prefix = prefix;
+        prefix = m .prefix;
         noConflict = no-conflict;
-        realtime = realtime;
-        commitBefore = commit-before;
+        realtime = m .realtime;
+        commitBefore = m .commitBefore;
       }
 
 pub snapshot-isolation : Isolated
-snapshot-isolation n h l calls = isolated (ledger (fromFresh n calls .pairs)) (at-end n h l calls .fair)
+snapshot-isolation n h l calls =
+    let hs = fromFresh n calls .pairs in
+    isolated (ledger hs) (timed hs) (at-end n h l calls .fair)

@@ -33,6 +33,7 @@ use Rattle.history.proofs.Basics.{none-some}
 use Rattle.history.proofs.Facts.{cellAt}
 use Rattle.history.proofs.Link.{Linked}
 use Rattle.history.proofs.Seen.{board-holds, read-right, conflict-exact}
+use Rattle.history.proofs.Timed.{Timed, fresh-timed, timed-note, timed}
 use Rattle.history.proofs.Fair.{Fair, fresh-fair, overlapped-apart}
 use Rattle.history.proofs.Steps.{step-links, step-fair}
 
@@ -75,11 +76,12 @@ pub record There (st : Store) (L : Ledger) : Type 0 where
   pub fair : Fair L
 
 there : (cs : List Call) (st : Store) (L : Ledger) → inShape (st .board) (length (st .words)) ≡ true → Linked (st .board) (cellsIn st) L
-    → Fair L → There (run st cs .store) (ledgerFrom L (run st cs .pairs))
+    → Timed L → Fair L → There (run st cs .store) (ledgerFrom L (run st cs .pairs))
 unfolding run ledgerFrom
-there [] st L s 𝓛 f = record { linked = 𝓛; fair = f }
-there (c ∷ cs) st L s 𝓛 f =
-    there cs (step st c .store) (note L (pairOf st c)) (keeps-shape st c s) (step-links st L 𝓛 c s) (step-fair st L 𝓛 f c)
+there [] st L s 𝓛 t f = record { linked = 𝓛; fair = f }
+there (c ∷ cs) st L s 𝓛 t f =
+    there cs (step st c .store) (note L (pairOf st c)) (keeps-shape st c s) (step-links st L 𝓛 c s)
+    (timed-note L t (pairOf st c)) (step-fair st L 𝓛 t f c)
 
 head-eq : (x y : Pair) (xs ys : List Pair) → x ∷ xs ≡ y ∷ ys → x ≡ y
 head-eq x y xs ys e = cc
@@ -185,7 +187,7 @@ module _ (n : ℕ) (h : 0 < n) (l : n ≤ mostCells) where
     at before after x e = here calls (freshStore n) newLedger (length (freshStore n .words)) refl fresh-shape fresh-links before after x e
 
     pub at-end : There (fromFresh n calls .store) (ledger hs)
-    at-end = there calls (freshStore n) newLedger fresh-shape fresh-links fresh-fair
+    at-end = there calls (freshStore n) newLedger fresh-shape fresh-links fresh-timed fresh-fair
 
     -- each read answered shows that transaction's own last write to the key, or else what the first n committed transactions leave
     pub reads : ReadsRight hs
@@ -196,7 +198,7 @@ module _ (n : ℕ) (h : 0 < n) (l : n ≤ mostCells) where
 
     -- no two committed transactions that overlapped wrote the same key
     pub apart : OverlappedApart hs
-    apart = overlapped-apart (ledger hs) (at-end .fair)
+    apart = overlapped-apart (ledger hs) (timed hs) (at-end .fair)
 
     -- an update that gets as far as the conflict test is refused for conflict exactly when the key is contested
     pub conflicts : ConflictsExact hs

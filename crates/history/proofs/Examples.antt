@@ -7,11 +7,12 @@
 --     shared-first, shared-last     had both written one key, demand 3 would not hold, in whichever order they began
 --     cheats-caught     each shortcut of document 01, and a store that feigns, gives an answer that is not the verdict
 --     reads-refuse, conflicts-refuse, final-refuses     and does not meet demand 3's sentence on reads or conflicts; nor does a stray cell
+--     int-binds, ext-binds, no-conflict-binds     pairs that break document 001's axioms: not every ledger meets these
 -- Assumes nothing.
 use mathlib.Core.Path.{_≡_, refl, sym}
 use mathlib.Core.Logic.{inl, inr}
 use mathlib.Core.Bool.{true, true≢false}
-use mathlib.Core.List.{[], _∷_}
+use mathlib.Core.List.{List, [], _∷_}
 use Prim.Native.Nat.{ℕ, _<_}
 use native.Mathlib.Omega.{arith}
 use lib.ListN.{take, drop}
@@ -21,33 +22,36 @@ use Rattle.cells.specs.Rules.{lowestFrom, hasCell, newest, ownAt, foreignWith, 
 use Rattle.steps.specs.Shape.{inShape}
 use Rattle.steps.specs.Check.{firstOf, checkOf}
 use Rattle.steps.specs.Spent.{hasPlace, reusable, heldBack}
-use Rattle.steps.specs.Step.{readAs, updatedAs, step}
+use Rattle.steps.specs.Step.{shownAt, updatedAs, step}
 use Rattle.steps.specs.Record.{freshBoard}
 use Rattle.steps.specs.Store.{saidOf, lent}
-use Rattle.steps.specs.Run.{callsOf, run}
+use Rattle.steps.specs.Run.{Pair, callsOf, run}
 use Rattle.steps.specs.Situations.{Situation, onFresh, case2, case5, case9}
-use Rattle.history.specs.History.{Wrote, Ledger, doneAt, accept, refuse, ledgerFrom, ledger, leaveFrom, Contested, Reaches, Overlapped}
+use Rattle.history.specs.History.{read, Wrote, Ledger, doneAt, accept, refuse, ledgerFrom, ledger, leaveFrom, Contested, Reaches, Overlapped}
 use Rattle.history.specs.History.{ReadsRight, ConflictsExact, LastHolds}
 use Rattle.history.specs.Verdict.{anyBelow, verdict, NeedsCell, Packed}
 use Rattle.history.specs.Examples.{AsTold, firstBeganFirst, lastBeganFirst, SharedKey, cheated, allCaught, cheats}
 use Rattle.history.specs.Examples.{Cheat, viewsAlone, newestAtEachRead, anyOldVersion, firstCellOnly, feigning}
+use Rattle.history.specs.Examples.{twoValues, neverWritten, oneKey}
+use Rattle.history.specs.Axioms.{Tx, initial, nth, Writes, ReadsFirst, Int, Latest, Ext, NoConflict}
+use Rattle.history.proofs.Basics.{cases}
 use Rattle.history.proofs.Judge.{of-contested, full-right}
 
 -- THE HISTORIES
 
 pub history2 : AsTold case2
 unfolding cellsOf pastCells wordsOf withCells lowestFrom hasCell newest ownAt foreignWith newestSeen conflict
-    inShape firstOf checkOf hasPlace reusable heldBack readAs updatedAs step run
+    inShape firstOf checkOf hasPlace reusable heldBack shownAt updatedAs step run
 history2 = refl
 
 pub history5 : AsTold case5
 unfolding cellsOf pastCells wordsOf withCells lowestFrom hasCell newest ownAt foreignWith newestSeen conflict
-    inShape firstOf checkOf hasPlace reusable heldBack readAs updatedAs step run
+    inShape firstOf checkOf hasPlace reusable heldBack shownAt updatedAs step run
 history5 = refl
 
 pub history9 : AsTold case9
 unfolding cellsOf pastCells wordsOf withCells lowestFrom hasCell newest ownAt foreignWith newestSeen conflict
-    inShape firstOf checkOf hasPlace reusable heldBack readAs updatedAs step run
+    inShape firstOf checkOf hasPlace reusable heldBack shownAt updatedAs step run
 history9 = refl
 
 -- THEIR LEDGERS
@@ -77,7 +81,7 @@ wrote5 = ((3, refl), (4, refl))
 -- the last to commit began first
 pub historyTwo : AsTold (onFresh 4 (lastBeganFirst 2))
 unfolding cellsOf pastCells wordsOf withCells lowestFrom hasCell newest ownAt foreignWith newestSeen conflict
-    inShape firstOf checkOf hasPlace reusable heldBack readAs updatedAs step run
+    inShape firstOf checkOf hasPlace reusable heldBack shownAt updatedAs step run
 historyTwo = refl
 
 abbrev two : Ledger
@@ -152,3 +156,29 @@ conflicts-refuse = (
 pub final-refuses : LastHolds [] (lent freshBoard (wordsOf (record { word = 1; value = 5; number = 1; commit = 9 } ∷ []))) → ⊥
 unfolding wordsOf cellsOf newest ledgerFrom leaveFrom
 final-refuses f = omega (arith, f 0)
+
+-- AXIOMS THAT BIND THE STORE
+
+abbrev told : List Pair → Ledger
+told hs = ledger hs
+
+pub int-binds : Int (told twoValues) → ⊥
+unfolding ledgerFrom accept refuse
+int-binds i = omega (arith, i (nth 1) (omega arith) [] (read 7 0 ∷ []) 7 12 0 refl refl)
+
+pub ext-binds : Ext (told neverWritten) → ⊥
+unfolding ledgerFrom accept refuse
+ext-binds x =
+    let r : ReadsFirst (told neverWritten) (nth 0) 7 5 = record { later = []; earlier = []; event = refl; first = refl } in
+    let s = x (nth 0) (omega arith) 7 5 r in
+    nobody (s .0) (s .1) (s .2)
+  where
+    nobody : (S : Tx) → Latest (told neverWritten) (nth 0) 7 S → Writes (told neverWritten) S 7 5 → ⊥
+    nobody initial l w = omega (arith, w)
+    nobody (nth j) l w = omega (arith, l .seen)
+
+pub no-conflict-binds : NoConflict (told oneKey) → ⊥
+unfolding ledgerFrom accept refuse
+no-conflict-binds c = cases (c (nth 0) (nth 1) (omega arith) (omega arith) (λ e. let z : _≡_ {A = ℕ} 0 1 = cc in omega arith) 1 (3, refl) (4, refl))
+    (λ v. omega (arith, v))
+    (λ v. omega (arith, v))

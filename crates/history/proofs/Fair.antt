@@ -1,5 +1,6 @@
 -- On the history alone: where every accepted update passed the conflict test, committed transactions that overlapped wrote no key in
--- common; and every answered read showed what its transaction sees.
+-- common; and every answered read showed what its transaction sees. This is what binds the store; when transactions began and ended, and
+-- which others they saw, is in Timed.
 --     Fair, fair-..       what is kept by each accepted call, and by one that leaves no trace
 --     overlapped-apart    what overlapped wrote no key in common
 -- Assumes nothing.
@@ -10,14 +11,15 @@ use mathlib.Core.Option.{none, Option·getD}
 use Prim.Native.Nat.{ℕ, _+_, _≤_, _<_}
 use native.Mathlib.Nat.{not-suc-le-zero}
 use native.Mathlib.Omega.{arith}
-use lib.ListN.{length, getD, take, length-append, List·getD-append}
-use lib.Seq.{getD-append-seam, take-append-le}
+use lib.ListN.{length, take}
+use lib.Seq.{take-append-le}
 use Rattle.steps.specs.declared.State.{State}
 use Rattle.steps.specs.Record.{allPlaces}
-use Rattle.history.specs.History.{Event, read, write, lastWrite, Wrote, Transaction, nobody, doing, turned, Done, nothing, Ledger, newLedger}
+use Rattle.history.specs.History.{Event, read, write, lastWrite, Wrote, Transaction, nobody, doing, turned, Done, Ledger, newLedger}
 use Rattle.history.specs.History.{doneAt, begun, ended, put, tick, opened, leave, sees, Contested, Overlapped}
 use Rattle.history.proofs.Basics.{cases, eq?, lt?, none-some}
 use Rattle.history.proofs.Link.{put-same, put-other, write-other}
+use Rattle.history.proofs.Timed.{nth, Timed, grow-at, grow-end, grow-index}
 
 -- WHAT IS KEPT
 
@@ -31,34 +33,25 @@ Told base (write k v ∷ es) = Told base es
 abbrev pub snapshot : List Done → ℕ → ℕ → ℕ
 snapshot D n k = leave (take n D) k
 
-abbrev pub nth : List Done → ℕ → Done
-nth D i = getD D i nothing
-
--- a transaction that began, saw and did so fits the committed ones: those that it saw ended before it began, and no other did; none of
--- the others below the bound wrote a key that it wrote; and its reads showed what it saw
-pub record Fits (D : List Done) (bound began seen : ℕ) (did : List Event) : Type 0 where
-  pub saw : seen ≤ bound
-  pub before : (i : ℕ) → i < seen → nth D i .ended < began
-  pub after : (i : ℕ) → seen ≤ i → i < length D → began ≤ nth D i .ended
+-- a transaction that saw and did so fits the committed ones: none of those below the bound that it did not see wrote a key that it
+-- wrote; and its reads showed what it saw
+pub record Fits (D : List Done) (bound seen : ℕ) (did : List Event) : Type 0 where
   pub apart : (i k : ℕ) → seen ≤ i → i < bound → Wrote (nth D i .did) k → Wrote did k → ⊥
   pub told : Told (snapshot D seen) did
 
 abbrev RunFits : List Done → Transaction → Type 0
-RunFits D r = Fits D (length D) (r .began) (r .seen) (r .did)
+RunFits D r = Fits D (length D) (r .seen) (r .did)
 
 -- the transactions at the places fit, and write apart; each committed one fits those before it
 pub record Fair (L : Ledger) : Type 0 where
   pub runs : (p : ℕ) → p < allPlaces → RunFits (L .past) (L .at p)
-  pub begun : (p : ℕ) → p < allPlaces → L .at p .began ≤ L .calls
   pub others : (p q k : ℕ) → p < allPlaces → q < allPlaces → (q ≡ p → ⊥) → Wrote (L .at q .did) k → Wrote (L .at p .did) k → ⊥
-  pub dones : (j : ℕ) → j < length (L .past) → Fits (L .past) j (doneAt L j .began) (doneAt L j .seen) (doneAt L j .did)
-  pub ended : (i : ℕ) → i < length (L .past) → doneAt L i .ended < L .calls
-  pub order : (i j : ℕ) → i < j → j < length (L .past) → doneAt L i .ended < doneAt L j .ended
+  pub dones : (j : ℕ) → j < length (L .past) → Fits (L .past) j (doneAt L j .seen) (doneAt L j .did)
 
-pub overlapped-apart : (L : Ledger) → Fair L → (i j : ℕ) → i < j → j < length (L .past) → Overlapped (doneAt L i) (doneAt L j)
+pub overlapped-apart : (L : Ledger) → Timed L → Fair L → (i j : ℕ) → i < j → j < length (L .past) → Overlapped (doneAt L i) (doneAt L j)
     → (k : ℕ) → Wrote (doneAt L i .did) k → Wrote (doneAt L j .did) k → ⊥
-overlapped-apart L f i j h l o k w w′ = cases (lt? i (doneAt L j .seen))
-    (λ g. let z = f .dones j l .before i g in omega (arith, z, o .1))
+overlapped-apart L t f i j h l o k w w′ = cases (lt? i (doneAt L j .seen))
+    (λ g. let z = t .dones j l .before i g in omega (arith, z, o .1))
     (λ g. f .dones j l .apart i k g h w w′)
 
 -- ONE TRANSACTION
@@ -66,64 +59,37 @@ overlapped-apart L f i j h l o k w w′ = cases (lt? i (doneAt L j .seen))
 no-write : {A : Type 0} (k : ℕ) → Wrote [] k → A
 no-write k w = none-some none (w .0) refl (w .1)
 
-nobody-fits : (D : List Done) → RunFits D nobody
-nobody-fits D =
-    record {
-      saw = omega arith;
-      before = λ i h. absurd (not-suc-le-zero h);
-      after = λ i h g. omega arith;
-      apart = λ i k h g w w′. no-write k w′;
-      told = tt;
-    }
+-- one that did nothing yet
+idle-fits : (D : List Done) (bound seen : ℕ) → Fits D bound seen []
+idle-fits D bound seen = record { apart = λ i k h g w w′. no-write k w′; told = tt }
 
-module _ (D : List Done) (bound began seen : ℕ) (did : List Event) (g : Fits D bound began seen did) where
+module _ (D : List Done) (bound seen : ℕ) (did : List Event) (g : Fits D bound seen did) where
   -- a read that showed what it saw
-  read-fits : (k v : ℕ) → v ≡ Option·getD (lastWrite did k) (snapshot D seen k) → Fits D bound began seen (read k v ∷ did)
-  read-fits k v e = record { saw = g .saw; before = g .before; after = g .after; apart = g .apart; told = (e, g .told) }
+  read-fits : (k v : ℕ) → v ≡ Option·getD (lastWrite did k) (snapshot D seen k) → Fits D bound seen (read k v ∷ did)
+  read-fits k v e = record { apart = g .apart; told = (e, g .told) }
 
   -- a write to a key that none of those not seen wrote
   write-fits : (k v : ℕ) → ((i j : ℕ) → seen ≤ i → i < bound → Wrote (nth D i .did) j → Wrote (write k v ∷ did) j → ⊥)
-      → Fits D bound began seen (write k v ∷ did)
-  write-fits k v a = record { saw = g .saw; before = g .before; after = g .after; apart = a; told = g .told }
+      → Fits D bound seen (write k v ∷ did)
+  write-fits k v a = record { apart = a; told = g .told }
 
   -- one more has committed
-  module _ (x : Done) (low : bound ≤ length D) (since : began ≤ x .ended) where
-    grow-at : (i : ℕ) → i < length D → nth (D ++ (x ∷ [])) i ≡ nth D i
-    grow-at i h = List·getD-append D (x ∷ []) nothing i h
-
-    grow-end : (i : ℕ) → i ≡ length D → nth (D ++ (x ∷ [])) i ≡ x
-    grow-end i e = rw e (getD-append-seam D x [] nothing)
-
-    after′ : (i : ℕ) → seen ≤ i → i < length (D ++ (x ∷ [])) → began ≤ nth (D ++ (x ∷ [])) i .ended
-    after′ i s h = cases (eq? i (length D))
-        (λ e. rw (grow-end i e) since)
-        (λ e. let l : i < length D = omega (arith, length-append D (x ∷ [])) in rw (grow-at i l) (g .after i s l))
-
-    grow-fits : Fits (D ++ (x ∷ [])) bound began seen did
-    grow-fits =
-        record {
-          saw = g .saw;
-          before = λ i h. rw (grow-at i (omega (arith, g .saw))) (g .before i h);
-          after = after′;
-          apart = λ i k s h w w′. g .apart i k s h (rw (grow-at i (omega arith)) at w) w′;
-          told = subst (λ (ds : List Done). Told (λ k. leave ds k) did)
-              (sym (take-append-le seen D (x ∷ []) (omega (arith, g .saw)))) (g .told);
-        }
+  grow-fits : (x : Done) → bound ≤ length D → seen ≤ length D → Fits (D ++ (x ∷ [])) bound seen did
+  grow-fits x low few =
+      record {
+        apart = λ i k s h w w′. g .apart i k s h (rw (grow-at D x i (omega arith)) at w) w′;
+        told = subst (λ (ds : List Done). Told (λ k. leave ds k) did) (sym (take-append-le seen D (x ∷ []) few)) (g .told);
+      }
 
 -- one more has committed that wrote no key that this one wrote
-grow-run : (D : List Done) (r : Transaction) (x : Done) → RunFits D r → r .began ≤ x .ended → ((k : ℕ) → Wrote (x .did) k → Wrote (r .did) k → ⊥)
+grow-run : (D : List Done) (r : Transaction) (x : Done) → RunFits D r → r .seen ≤ length D → ((k : ℕ) → Wrote (x .did) k → Wrote (r .did) k → ⊥)
     → RunFits (D ++ (x ∷ [])) r
-grow-run D r x g b a =
-    let n = length D in
-    let len = length-append D (x ∷ []) in
-    let f = grow-fits D n (r .began) (r .seen) (r .did) g x (omega arith) b in
+grow-run D r x g few a =
+    let f = grow-fits D (length D) (r .seen) (r .did) g x (omega arith) few in
     record {
-      saw = omega (arith, f .saw, len);
-      before = f .before;
-      after = f .after;
-      apart = λ i k s h w w′. cases (eq? i n)
-          (λ e. a k (rw (grow-end D n (r .began) (r .seen) (r .did) g x (omega arith) b i e) at w) w′)
-          (λ e. f .apart i k s (omega (arith, len)) w w′);
+      apart = λ i k s h w w′. cases (grow-index D x i h)
+          (λ l. f .apart i k s l w w′)
+          (λ e. a k (rw (grow-end D x i e) at w) w′);
       told = f .told;
     }
 
@@ -132,29 +98,18 @@ grow-run D r x g b a =
 pub fresh-fair : Fair newLedger
 fresh-fair =
     record {
-      runs = λ p l. nobody-fits [];
-      begun = λ p l. omega arith;
+      runs = λ p l. idle-fits [] 0 0;
       others = λ p q k l h d w w′. no-write k w′;
       dones = λ j h. absurd (not-suc-le-zero h);
-      ended = λ i h. absurd (not-suc-le-zero h);
-      order = λ i j h h′. absurd (not-suc-le-zero h′);
     }
 
 module _ (L : Ledger) (f : Fair L) where
   -- A CALL THAT LEAVES NO TRACE
   pub fair-tick : Fair (tick L (L .at) (L .past))
-  fair-tick =
-      record {
-        runs = f .runs;
-        begun = λ p l. omega (arith, f .begun p l);
-        others = f .others;
-        dones = f .dones;
-        ended = λ i h. omega (arith, f .ended i h);
-        order = f .order;
-      }
+  fair-tick = record { runs = f .runs; others = f .others; dones = f .dones }
 
   -- ANOTHER TRANSACTION AT PLACE p
-  module _ (p starts : ℕ) (r : Transaction) (g : RunFits (L .past) r) (b : r .began ≤ L .calls)
+  module _ (p starts : ℕ) (r : Transaction) (g : RunFits (L .past) r)
       (o : (q k : ℕ) → q < allPlaces → (q ≡ p → ⊥) → Wrote (L .at q .did) k → Wrote (r .did) k → ⊥) where
     abbrev runs′ : ℕ → Transaction
     runs′ = put (L .at) p r
@@ -174,40 +129,26 @@ module _ (L : Ledger) (f : Fair L) where
     fair-put =
         record {
           runs = λ q l. cases (eq? q p) (λ e. rw (put-same (L .at) p r q e) g) (λ e. rw (put-other (L .at) p r q e) (f .runs q l));
-          begun = λ q l. cases (eq? q p)
-              (λ e. rw (put-same (L .at) p r q e) (omega arith))
-              (λ e. rw (put-other (L .at) p r q e) (omega (arith, f .begun q l)));
           others = others′;
           dones = f .dones;
-          ended = λ i h. omega (arith, f .ended i h);
-          order = f .order;
         }
 
   pub fair-start : (p : ℕ) → Fair (opened L (put (L .at) p (begun L)))
   fair-start p =
-      fair-put p (L .starts + 1) (begun L)
-      (record {
-        saw = omega arith;
-        before = f .ended;
-        after = λ i h l. absurd (omega arith);
-        apart = λ i k h l w w′. no-write k w′;
-        told = tt;
-      })
-      (omega arith)
-      (λ q k l d w w′. no-write k w′)
+      fair-put p (L .starts + 1) (begun L) (idle-fits (L .past) (length (L .past)) (length (L .past))) (λ q k l d w w′. no-write k w′)
 
   pub fair-turn : (p : ℕ) (s : State) → p < allPlaces → Fair (tick L (put (L .at) p (turned s (L .at p))) (L .past))
-  fair-turn p s l = fair-put p (L .starts) (turned s (L .at p)) (f .runs p l) (f .begun p l) (λ q k h d. f .others p q k l h d)
+  fair-turn p s l = fair-put p (L .starts) (turned s (L .at p)) (f .runs p l) (λ q k h d. f .others p q k l h d)
 
   -- an answered read that showed what its transaction sees
   pub fair-read : (p k v : ℕ) → p < allPlaces → v ≡ sees L p k → Fair (tick L (put (L .at) p (doing (read k v) (L .at p))) (L .past))
   fair-read p k v l e =
       let r = L .at p in
-      fair-put p (L .starts) (doing (read k v) r) (read-fits (L .past) (length (L .past)) (r .began) (r .seen) (r .did) (f .runs p l) k v e)
-      (f .begun p l) (λ q j h d. f .others p q j l h d)
+      fair-put p (L .starts) (doing (read k v) r) (read-fits (L .past) (length (L .past)) (r .seen) (r .did) (f .runs p l) k v e)
+      (λ q j h d. f .others p q j l h d)
 
   pub fair-rollback : (p : ℕ) → Fair (tick L (put (L .at) p nobody) (L .past))
-  fair-rollback p = fair-put p (L .starts) nobody (nobody-fits (L .past)) (omega arith) (λ q k h d w w′. no-write k w′)
+  fair-rollback p = fair-put p (L .starts) nobody (idle-fits (L .past) (length (L .past)) 0) (λ q k h d w w′. no-write k w′)
 
   -- a write that is not the first to its key, or that passed the conflict test
   pub fair-write : (p k v : ℕ) → p < allPlaces → (Wrote (L .at p .did) k ⊎ (Contested L p k → ⊥))
@@ -215,11 +156,10 @@ module _ (L : Ledger) (f : Fair L) where
   fair-write p k v l c =
       let r = L .at p in
       fair-put p (L .starts) (doing (write k v) r)
-      (write-fits (L .past) (length (L .past)) (r .began) (r .seen) (r .did) (f .runs p l) k v
+      (write-fits (L .past) (length (L .past)) (r .seen) (r .did) (f .runs p l) k v
       (λ i j h h′ w w′. cases (was j w′)
       (λ y. f .runs p l .apart i j h h′ w y)
       (λ y. y .1 (inr (i, h, h′, subst (λ (n : ℕ). Wrote (doneAt L i .did) n) (y .0) w)))))
-      (f .begun p l)
       (λ q j h d w w′. cases (was j w′)
       (λ y. f .others p q j l h d w y)
       (λ y. y .1 (inl (q, h, d, subst (λ (n : ℕ). Wrote (L .at q .did) n) (y .0) w))))
@@ -230,9 +170,9 @@ module _ (L : Ledger) (f : Fair L) where
           (λ e. inl (w .0, sym (write-other (L .at p .did) k v j e) ∙ w .1))
 
   -- A COMMIT
-  module _ (p : ℕ) (l : p < allPlaces) where
+  module _ (t : Timed L) (p : ℕ) (l : p < allPlaces) where
     abbrev last : Done
-    last = Rattle.history.specs.History.ended L (L .at p)
+    last = ended L (L .at p)
 
     abbrev past′ : List Done
     past′ = L .past ++ (last ∷ [])
@@ -240,52 +180,23 @@ module _ (L : Ledger) (f : Fair L) where
     abbrev after : Ledger
     after = tick L (put (L .at) p nobody) past′
 
-    older : (m : ℕ) → m < length (L .past) → doneAt after m ≡ doneAt L m
-    older m g = List·getD-append (L .past) (last ∷ []) nothing m g
-
-    newest : (m : ℕ) → m ≡ length (L .past) → doneAt after m ≡ last
-    newest m e = rw e (getD-append-seam (L .past) last [] nothing)
-
-    index : (m : ℕ) → m < length past′ → (m < length (L .past)) ⊎ (m ≡ length (L .past))
-    index m h = cases (eq? m (length (L .past))) (λ e. inr e) (λ e. inl (omega (arith, length-append (L .past) (last ∷ []))))
-
     runs-after : (q : ℕ) → q < allPlaces → RunFits past′ (put (L .at) p nobody q)
     runs-after q h = cases (eq? q p)
-        (λ e. rw (put-same (L .at) p nobody q e) (nobody-fits past′))
+        (λ e. rw (put-same (L .at) p nobody q e) (idle-fits past′ (length past′) 0))
         (λ e. rw (put-other (L .at) p nobody q e)
-        (grow-run (L .past) (L .at q) last (f .runs q h) (f .begun q h) (λ k w w′. f .others p q k l h e w′ w)))
+        (grow-run (L .past) (L .at q) last (f .runs q h) (t .runs q .few) (λ k w w′. f .others p q k l h e w′ w)))
 
-    others-after : (q s k : ℕ) → q < allPlaces → s < allPlaces → (s ≡ q → ⊥) → Wrote (after .at s .did) k → Wrote (after .at q .did) k → ⊥
-    others-after = fair-rollback p .others
-
-    dones-after : (j : ℕ) → j < length past′ → Fits past′ j (doneAt after j .began) (doneAt after j .seen) (doneAt after j .did)
-    dones-after j h = cases (index j h)
+    dones-after : (j : ℕ) → j < length past′ → Fits past′ j (doneAt after j .seen) (doneAt after j .did)
+    dones-after j h = cases (grow-index (L .past) last j h)
         (λ z.
         let d = doneAt L j in
-        let since = f .dones j z .after j (f .dones j z .saw) z in
-        rw (older j z)
-        (grow-fits (L .past) j (d .began) (d .seen) (d .did) (f .dones j z) last (omega arith) (omega (arith, since, f .ended j z))))
+        rw (grow-at (L .past) last j z)
+        (grow-fits (L .past) j (d .seen) (d .did) (f .dones j z) last (omega arith) (omega (arith, t .dones j z .few))))
         (λ z.
         let r = L .at p in
-        let g : Fits (L .past) j (r .began) (r .seen) (r .did) =
-        subst (λ (n : ℕ). Fits (L .past) n (r .began) (r .seen) (r .did)) (sym z) (f .runs p l) in
-        rw (newest j z) (grow-fits (L .past) j (r .began) (r .seen) (r .did) g last (omega arith) (f .begun p l)))
+        let g : Fits (L .past) j (r .seen) (r .did) =
+        subst (λ (n : ℕ). Fits (L .past) n (r .seen) (r .did)) (sym z) (f .runs p l) in
+        rw (grow-end (L .past) last j z) (grow-fits (L .past) j (r .seen) (r .did) g last (omega arith) (t .runs p .few)))
 
     pub fair-commit : Fair after
-    fair-commit =
-        record {
-          runs = runs-after;
-          begun = fair-rollback p .begun;
-          others = others-after;
-          dones = dones-after;
-          ended = λ i h. cases (index i h)
-              (λ z. rw (older i z) (omega (arith, f .ended i z)))
-              (λ z. rw (newest i z) (omega arith));
-          order = λ i j h h′. cases (index j h′)
-              (λ z.
-              let b : i < length (L .past) = omega arith in
-              rw (older j z) (rw (older i b) (f .order i j h z)))
-              (λ z.
-              let b : i < length (L .past) = omega arith in
-              rw (newest j z) (rw (older i b) (f .ended i b)));
-        }
+    fair-commit = record { runs = runs-after; others = fair-rollback p .others; dones = dones-after }

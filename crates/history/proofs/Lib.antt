@@ -1,5 +1,5 @@
 -- Laws by subject, then the theorems: Demand (demand3), Judge (all-right, full-right, decided), Axioms (snapshot-isolation),
--- Examples, and Bytes (desk-tells, serve-tells).
+-- Examples, and Bytes (desk-tells, serve-tells, desk-only).
 pub mod Basics
 pub mod Facts
 pub mod Leave
@@ -8,6 +8,7 @@ pub mod Seen
 pub mod Write
 pub mod Turn
 pub mod Close
+pub mod Timed
 pub mod Fair
 pub mod Steps
 pub mod Demand

@@ -36,6 +36,7 @@ use Rattle.history.proofs.Seen.{open-busy, read-right, contested-confli
 use Rattle.history.proofs.Write.{spent-successor, write-links}
 use Rattle.history.proofs.Turn.{tick-links, read-links, turn-links, start-links}
 use Rattle.history.proofs.Close.{commit-links, rollback-links}
+use Rattle.history.proofs.Timed.{Timed}
 use Rattle.history.proofs.Fair.{Fair, fair-tick, fair-start, fair-turn, fair-read, fair-rollback, fair-write, fair-commit}
 
 -- A REFUSAL BUT CONFLICT LEAVES NO TRACE
@@ -176,7 +177,7 @@ module _ (st : Store) (L : Ledger) (𝓛 : Linked (st .board) (cellsIn st) L) wh
   step-links c s = on-step (Kept c) st c (λ a h. refused c a (h .refusal) (h .calm)) (done-links c) (keeps-shape st c s)
 
   -- FAIR
-  module _ (f : Fair L) where
+  module _ (t : Timed L) (f : Fair L) where
     abbrev StaysFair : Call → Outcome → Type 0
     StaysFair c o = Fair (note L (pairWith c o))
 
@@ -209,7 +210,7 @@ module _ (st : Store) (L : Ledger) (𝓛 : Linked (st .board) (cellsIn st) L) wh
     done-fair (Call.Read p k) g = read-fair p k (leb-false _ _ (g Answer.Place)) (open-of (placeAt b p .state) (g Answer.Idle) (g Answer.Spoiled) (g Answer.Held))
     done-fair (Call.Update p k v) g = update-fair p k v (leb-false _ _ (g Answer.Place)) (open-of (placeAt b p .state) (g Answer.Idle) (g Answer.Spoiled) (g Answer.Held))
     done-fair (Call.Prepare p) g = fair-turn L f p State.Prepared (leb-false _ _ (g Answer.Place))
-    done-fair (Call.Commit p) g = fair-commit L f p (leb-false _ _ (g Answer.Place))
+    done-fair (Call.Commit p) g = fair-commit L f t p (leb-false _ _ (g Answer.Place))
     done-fair (Call.Rollback p) g = fair-rollback L f p
 
     pub step-fair : (c : Call) → Fair (note L (pairOf st c))

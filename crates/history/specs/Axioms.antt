@@ -10,6 +10,7 @@ use lib.Dec.{eqb}
 use lib.ListN.{length}
 use Rattle.records.specs.declared.Call.{Call}
 use Rattle.steps.specs.Record.{mostCells}
+use Rattle.steps.specs.Run.{Pair}
 use Rattle.history.specs.History.{Event, read, write, lastWrite, Ledger, doneAt, ledger, fromFresh}
 
 -- TRANSACTIONS
@@ -131,6 +132,17 @@ pub record SnapshotIsolation (L : Ledger) : Type 0 where
   pub noConflict : NoConflict L
   pub realtime : RealtimeSnapshot L
   pub commitBefore : CommitBefore L
+
+-- those that any pairs meet, whatever answered them: they say how a ledger is made. The others, Int, Ext and NoConflict, bind the store
+pub record AsMade (L : Ledger) : Type 0 where
+  pub execution : Execution L
+  pub prefix : Prefix L
+  pub realtime : RealtimeSnapshot L
+  pub commitBefore : CommitBefore L
+
+-- of the ledger of any pairs
+abbrev pub AnyPairs : Type 0
+AnyPairs = (hs : List Pair) → AsMade (ledger hs)
 
 -- for every number of cells from 1 to 1,024 and every list of calls
 abbrev pub Isolated : Type 0

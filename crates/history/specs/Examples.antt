@@ -149,3 +149,17 @@ feigning =
 -- the list
 abbrev pub cheats : List Cheat
 cheats = viewsAlone ∷ newestAtEachRead ∷ anyOldVersion ∷ firstCellOnly ∷ feigning ∷ []
+
+-- AXIOMS THAT BIND THE STORE
+
+-- a transaction that reads one key twice and is shown two values breaks Int
+abbrev pub twoValues : List Pair
+twoValues = newestAtEachRead .before ++ Call.Read 1 7 gives Answer.Ok 12 ∷ Call.Commit 1 gives Answer.Ok 2 ∷ []
+
+-- one that is shown what nobody wrote breaks Ext
+abbrev pub neverWritten : List Pair
+neverWritten = Call.Start 0 gives Answer.Ok 1 ∷ Call.Read 0 7 gives Answer.Ok 5 ∷ Call.Commit 0 gives Answer.Ok 1 ∷ []
+
+-- and two that overlapped and wrote one key break NoConflict
+abbrev pub oneKey : List Pair
+oneKey = lastBeganFirst 1

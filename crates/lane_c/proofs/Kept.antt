@@ -2,6 +2,7 @@
 --     call-is-step          where the kind names a call and the words are a record, `lane_call` is that call's step on the record
 --     serve-is-serving      where the words are a record, `lane_serve` is serving on that record
 --     call-kept, serve-kept words that are a record are one afterwards too, and the cells are as many words as before
+--     step-on, serve-on     the same of the words of a record, as equations of all that comes back
 -- Assumes nothing.
 use mathlib.Core.Path.{_≡_, refl, ap, _∙_}
 use mathlib.Core.Bool.{Bool, true, cond}
@@ -17,7 +18,7 @@ use Rattle.steps.specs.Record.{allPlaces}
 use Rattle.steps.specs.Step.{Outcome, step}
 use Rattle.steps.proofs.Keeps.{keeps-lengths}
 use Rattle.lanes.specs.Serve.{callsIn, runOf, tried, serveFirst, serveOf, Serving, serveInto}
-use Rattle.lane_c.specs.Words.{recordOf, wellFormed}
+use Rattle.lane_c.specs.Words.{recordOf, wordsOfRecord, wellFormed}
 use Rattle.lane_c.specs.Call.{callNamed, Crossed, refusedWith, outcomeWords, stepOnWords, onNamed, laneCall}
 use Rattle.lane_c.specs.Serve.{whyOf, Handed, servingWords, nothingServed, laneServe}
 use Rattle.lane_c.proofs.Words.{length-places, well-length, record-words, well-words}
@@ -39,7 +40,7 @@ pub record IsServing (s : Serving) (x : Handed) : Type 0 where
   pub answers : x .answers ≡ s .answers
 
 -- a run of calls leaves as many words and places as there were
-run-lengths : (b : Board) (cs : List ℕ) (calls : List Call)
+pub run-lengths : (b : Board) (cs : List ℕ) (calls : List Call)
     → (length (runOf b cs calls .words) ≡ length cs) × (length (runOf b cs calls .board .places) ≡ length (b .places))
 unfolding runOf
 run-lengths b cs [] = (refl, refl)
@@ -101,3 +102,14 @@ module _ (ws cs : List ℕ) (w : wellFormed ws ≡ true) where
 
     pub serve-kept : (wellFormed (laneServe ws cs calls answers .words) ≡ true) × (length (laneServe ws cs calls answers .cells) ≡ length cs)
     serve-kept = rw served (well-words (serveInto (recordOf ws) cs calls answers .board) (serve-lengths .1), serve-lengths .0)
+
+-- the words of a record
+module _ (b : Board) (cs : List ℕ) (full : length (b .places) ≡ allPlaces) where
+  pub step-on : (call : Call) → stepOnWords (wordsOfRecord b) cs call ≡ outcomeWords (step b cs call)
+  step-on call =
+      on-words (wordsOfRecord b) cs (well-words b full) call ∙ ap (λ (x : Board). outcomeWords (step x cs call)) (record-words b full)
+
+  pub serve-on : (calls answers : List ℕ) → laneServe (wordsOfRecord b) cs calls answers ≡ servingWords (serveInto b cs calls answers)
+  serve-on calls answers =
+      served (wordsOfRecord b) cs (well-words b full) calls answers
+      ∙ ap (λ (x : Board). servingWords (serveInto x cs calls answers)) (record-words b full)

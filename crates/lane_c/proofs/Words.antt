@@ -2,6 +2,8 @@
 --     place-read                 what three reads at a place's words are
 --     word-at, counts-at         where a place and the counts stand in the words of a record
 --     states-..                  what the state words that are left say
+--     state-set                  another state at a place is another word there
+--     open-word                  the state word of an open place is 1
 --     record-words               theorem: the record of a record's words is the record
 --     words-record               theorem: the words of the record of well formed words are the words
 --     well-words, fresh-words    the words of a record are well formed; 50 zeros are the fresh record
@@ -12,17 +14,19 @@ use mathlib.Core.List.{List, [], _∷_, _++_}
 use Prim.Native.Nat.{ℕ, zero, suc, _+_, _*_, _/_, _<_, _≤_}
 use native.Mathlib.Omega.{arith}
 use lib.Dec.{eqb, leb}
-use lib.ListN.{length, getD, drop, replicate, length-append, drop-of-length-le}
+use lib.ListN.{length, getD, set, drop, replicate, length-append, drop-of-length-le}
 use lib.Seq.{getD-append-add}
 use borrow.Author.Tests.{leb-true, eqb-true, eq-eqb, le-leb, lt-leb}
 use Rattle.steps.specs.declared.State.{State}
 use Rattle.steps.specs.declared.Place.{Place}
 use Rattle.steps.specs.declared.Board.{Board}
 use Rattle.steps.specs.Record.{allPlaces, idlePlace, freshBoard}
+use Rattle.steps.specs.Step.{inState}
 use Rattle.cells.proofs.Laws.{drop-next}
 use Rattle.steps.proofs.Tests.{and-left, and-right}
 use Rattle.lane_c.proofs.Laws.{three-left}
-use Rattle.lane_c.specs.Words.{recordWords, stateWord, stateOf, placesOf, wordsOfPlaces, recordOf, wordsOfRecord, statesFit, wellFormed}
+use Rattle.lane_c.specs.Words.{recordWords, stateWordAt, stateWord, stateOf, placesOf, wordsOfPlaces, recordOf, wordsOfRecord, statesFit}
+use Rattle.lane_c.specs.Words.{wellFormed}
 
 pub length-places : (ws : List ℕ) → length (placesOf ws) ≡ length ws / 3
 unfolding placesOf
@@ -73,6 +77,34 @@ word-state (suc zero) h = refl
 word-state (suc (suc zero)) h = refl
 word-state (suc (suc (suc zero))) h = refl
 word-state (suc (suc (suc (suc n)))) h = absurd (omega (arith, leb-true (suc (suc (suc (suc n)))) 3 h))
+
+-- a place that is open is one of those there, and its state word is 1
+open-state : (n : ℕ) → stateOf n ≡ State.Open → n ≡ stateWord State.Open
+open-state zero e = absurd (let z : _≡_ {A = ℕ} 0 1 = cc in omega arith)
+open-state (suc zero) e = refl
+open-state (suc (suc zero)) e = absurd (let z : _≡_ {A = ℕ} 0 1 = cc in omega arith)
+open-state (suc (suc (suc n))) e = absurd (let z : _≡_ {A = ℕ} 0 1 = cc in omega arith)
+
+pub open-inside : (ps : List Place) (i : ℕ) → getD ps i idlePlace .state ≡ State.Open → i < length ps
+open-inside [] i e = absurd (let z : _≡_ {A = ℕ} 0 1 = cc in omega arith)
+open-inside (p ∷ ps) zero e = omega arith
+open-inside (p ∷ ps) (suc i) e = let h = open-inside ps i e in omega arith
+
+pub open-word : (ws : List ℕ) (i : ℕ) → getD (placesOf ws) i idlePlace .state ≡ State.Open → getD ws (stateWordAt i) 0 ≡ stateWord State.Open
+open-word ws i e =
+    let h : i < length (placesOf ws) = open-inside (placesOf ws) i e in
+    let r : placeFrom ws i ≡ getD (placesOf ws) i idlePlace = place-read ws i (omega (arith, length-places ws)) in
+    open-state (getD ws (stateWordAt i) 0) (ap (λ (p : Place). p .state) r ∙ e)
+
+-- another state at a place is another word there
+pub state-set : (ps : List Place) (past : List ℕ) (i : ℕ) (s : State) → i < length ps
+    → wordsOfPlaces (set ps i (inState s (getD ps i idlePlace))) ++ past ≡ set (wordsOfPlaces ps ++ past) (stateWordAt i) (stateWord s)
+unfolding wordsOfPlaces
+state-set [] past i s h = absurd (omega arith)
+state-set (p ∷ ps) past zero s h = refl
+state-set (p ∷ ps) past (suc i) s h =
+    let e : stateWordAt (suc i) ≡ suc (suc (suc (stateWordAt i))) = omega arith in
+    rw e (ap (λ (l : List ℕ). stateWord (p .state) ∷ (p .number ∷ (p .view ∷ l))) (state-set ps past i s (omega arith)))
 
 -- the three words of a place
 abbrev pub placeWords : Place → List ℕ

@@ -2,7 +2,7 @@
 -- Assumes nothing.
 use mathlib.Core.Bool.{Bool, true, _&&_}
 use mathlib.Core.List.{List, [], _∷_, _++_}
-use Prim.Native.Nat.{ℕ}
+use Prim.Native.Nat.{ℕ, _*_}
 use lib.Dec.{eqb, leb}
 use lib.ListN.{length, getD}
 use Rattle.steps.specs.declared.State.{State}
@@ -12,6 +12,10 @@ use Rattle.steps.specs.declared.Board.{Board}
 -- a record crosses as 50 words
 abbrev pub recordWords : ℕ
 recordWords = 50
+
+-- word 3i the state of place i
+abbrev pub stateWordAt : ℕ → ℕ
+stateWordAt place = 3 * place
 
 -- word 48 the start count
 abbrev pub startsAt : ℕ

@@ -1,6 +1,12 @@
-// The situations on the road, run on real boards: 1 to 10 again, and 11. A line for each row: what was called, and what came back.
+// The situations on the road, run on real boards: 1 to 10 again, and 11. Each call is made twice: as a value on one board, and on another
+// as bytes, as a console sends it. A line for each row: what was called, and what came back.
+use cells::Cell;
+use records::Answer;
+use records::AnswerRead;
 use records::Call;
+use steps::Answered;
 use steps::Board;
+ghost use Prim.Native.Nat.{_≤_};
 
 // A row of the table: what is done, three numbers for it, and what is to come back, number and value. A CASE begins a situation on a
 // fresh board of so many words, GOES_ON one on the same board; a CELL names a cell and the
@@ -46,6 +52,8 @@ const CONFLICT: u32 = 9;
 const PREPARED: u32 = 10;
 
 const FULL: u32 = 11;
+
+const RECORD: u32 = 12;
 
 const END_KIND: u32 = 9;
 
@@ -215,7 +223,7 @@ const CASE_9_b: [Row; 12] = [
     END,
 ];
 
-// 10. key 255 is taken, 256 is KEY; place 15 is taken, 16 is PLACE
+// 10. key 255 is taken, 256 is KEY; place 15 is taken, 16 is PLACE. Place 256 and key 65,536 have no record: as bytes they are RECORD.
 const CASE_10: [Row; 12] = [
     Row(CASE, 10, 16, 0, 0, 0),
     Row(START, 15, 0, 0, OK, 1),
@@ -224,10 +232,10 @@ const CASE_10: [Row; 12] = [
     Row(UPDATE, 15, 256, 6, KEY, 0),
     Row(READ, 15, 256, 0, KEY, 0),
     Row(START, 16, 0, 0, PLACE, 0),
-    END,
-    END,
-    END,
-    END,
+    Row(START, 255, 0, 0, PLACE, 0),
+    Row(START, 256, 0, 0, PLACE, 0),
+    Row(READ, 15, 65535, 0, KEY, 0),
+    Row(READ, 15, 65536, 0, KEY, 0),
     END,
 ];
 
@@ -372,9 +380,11 @@ const CASE_11_i: [Row; 12] = [
     END,
 ];
 
-// How far the run is: the record, how many words are lent, the situation and its step, and how many checks there were and were wrong.
+// How far the run is: the record that calls go to as values and the one that they go to as bytes, how many words are lent to each, the
+// situation and its step, and how many checks there were and were wrong.
 struct Run {
     board: Board,
+    served: Board,
     length: usize,
     case: u32,
     step: u32,
@@ -384,13 +394,15 @@ struct Run {
 
 fn main() {
     let mut words = [0u32; 4100];
-    run_all(&mut words);
+    let mut others = [0u32; 4100];
+    run_all(&mut words, &mut others);
 }
 
 // Every situation, then how many checks there were and how many were wrong.
-fn run_all(words: &mut [u32]) {
+fn run_all(words: &mut [u32], others: &mut [u32]) {
     let mut at = Run {
         board: Board::fresh(),
+        served: Board::fresh(),
         length: 0,
         case: 0,
         step: 0,
@@ -398,7 +410,7 @@ fn run_all(words: &mut [u32]) {
         wrong: 0,
     };
     for i in 0..20 {
-        at = rows(at, table(i), words);
+        at = rows(at, table(i), words, others);
     }
     number(at.checks);
     say(b" checks, ");
@@ -433,53 +445,47 @@ fn table(i: usize) -> [Row; 12] {
 }
 
 // The rows of a table.
-fn rows(before: Run, table: [Row; 12], words: &mut [u32]) -> Run {
+fn rows(before: Run, table: [Row; 12], words: &mut [u32], others: &mut [u32]) -> Run {
     let mut at = before;
     for i in 0..12 {
         let row = table[i];
-        at = done(at, row, words);
+        at = done(at, row, words, others);
     }
     at
 }
 
 // One row.
-fn done(at: Run, row: Row, words: &mut [u32]) -> Run {
+fn done(at: Run, row: Row, words: &mut [u32], others: &mut [u32]) -> Run {
     let kind = row.0;
     if kind == CASE {
-        return begun(at, row, words);
+        clear(words);
+        clear(others);
+        return begun(at, row);
     }
     if kind == GOES_ON {
         return gone_on(at, row);
     }
     if kind == CELL {
-        return cell_seen(at, row, words);
+        return cell_seen(at, row, words, others);
     }
     if kind == END_KIND {
         return at;
     }
-    called(at, row, words)
+    called(at, row, words, others)
 }
 
-// A situation begins, on a fresh board of so many words.
-fn begun(at: Run, row: Row, words: &mut [u32]) -> Run {
-    clear(words);
+// A situation begins, on fresh boards of so many words.
+fn begun(at: Run, row: Row) -> Run {
     let next = at.in_case(row.1);
-    let board = Board::fresh();
     label(next.case, next.step);
     say(b" board ");
     number(row.2);
     say(b"\n");
-    Run {
-        board: board,
-        length: row.2 as usize,
-        case: next.case,
-        step: next.step,
-        checks: next.checks,
-        wrong: next.wrong,
-    }
+    next.lent(row.2 as usize)
+        .now(Board::fresh(), Board::fresh())
 }
 
-// A situation begins on the board of the one before it.
+// A situation begins on the boards of the one before it.
 fn gone_on(at: Run, row: Row) -> Run {
     let next = at.in_case(row.1);
     label(next.case, next.step);
@@ -487,18 +493,73 @@ fn gone_on(at: Run, row: Row) -> Run {
     next
 }
 
-// A call on the lent words, which are never more than there are.
-fn called(at: Run, row: Row, words: &mut [u32]) -> Run {
+// A call, as a value on one board and as bytes on the other.
+fn called(at: Run, row: Row, words: &mut [u32], others: &mut [u32]) -> Run {
     let next = at.stepped();
-    let length = next.length;
-    if words.len() < length {
-        return next;
-    }
     label(next.case, next.step);
     say_call(row);
+    let call = call_of(row);
     let board = next.board;
-    let a = lanes::call(board, &mut words[..length], call_of(row));
-    let answer = a.answer;
+    let a = by_value(board, words, next.length, call);
+    let served = next.served;
+    let s = as_bytes(served, others, next.length, call);
+    next.answered(row, a, s)
+}
+
+// A call as a value, on so many of the words.
+fn by_value(board: Board, words: &mut [u32], length: usize, call: Call) -> Answered {
+    let lent = least(length, words.len());
+    lanes::call(board, &mut words[..lent], call)
+}
+
+// A call as bytes, on so many of the words.
+fn as_bytes(board: Board, words: &mut [u32], length: usize, call: Call) -> Sent {
+    let lent = least(length, words.len());
+    send(board, &mut words[..lent], call)
+}
+
+// What came back for a call that went as bytes: the answer, whether its record has the call's place, and the new record.
+struct Sent {
+    board: Board,
+    answer: Answer,
+    placed: bool,
+}
+
+// A call as a console sends it: its record is written, the record is served, and the answer's record is read. A call that has no record
+// goes nowhere: RECORD.
+fn send(board: Board, cells: &mut [u32], call: Call) -> Sent {
+    let mut asked = [0u8; records::CALL_BYTES];
+    let mut told = [0u8; records::ANSWER_BYTES];
+    let written = records::write_call(&mut asked, 0, call);
+    if records::number(written) != 0 {
+        return Sent {
+            board: board,
+            answer: written,
+            placed: true,
+        };
+    }
+    let s = lanes::serve(board, cells, &asked, &mut told);
+    let after = s.board;
+    let read = records::read_answer(&told, 0);
+    match read {
+        AnswerRead::Good(reply) => {
+            let answer = reply.answer;
+            Sent {
+                board: after,
+                answer: answer,
+                placed: reply.place == records::place_of(call),
+            }
+        }
+        AnswerRead::Record => Sent {
+            board: after,
+            answer: Answer::Record,
+            placed: false,
+        },
+    }
+}
+
+// Says what came back, and whether it is what the row says.
+fn said(answer: Answer, row: Row) -> bool {
     let no = wide(records::number(answer));
     let value = records::value(answer);
     say(b" -> ");
@@ -508,38 +569,78 @@ fn called(at: Run, row: Row, words: &mut [u32]) -> Run {
         say(b", document 01 says ");
         say_answer(row.4, row.5);
     }
-    say(b"\n");
-    let after = a.board;
-    Run {
-        board: after,
-        length: length,
-        case: next.case,
-        step: next.step,
-        checks: next.checks,
-        wrong: next.wrong,
-    }.checked(right)
+    right
 }
 
-// The four words of a cell.
-fn cell_seen(at: Run, row: Row, words: &mut [u32]) -> Run {
-    let next = at.stepped();
-    let i = row.1 as usize;
-    if cells::count(words) <= i {
-        return next;
+// Whether what came back as bytes is what the row says, or RECORD for a call that has no record; says it where it is not.
+fn said_as_bytes(s: Sent, row: Row) -> bool {
+    let answer = s.answer;
+    let no = wide(records::number(answer));
+    let value = records::value(answer);
+    let unwritten = (255 < row.1) | (65535 < row.2);
+    let right = (no == row.4) & (value == row.5) & s.placed & !unwritten;
+    let refused = (no == RECORD) & (value == 0) & unwritten;
+    if right | refused {
+        return true;
     }
-    let c = cells::cell_at(words, i);
+    say(b", as bytes ");
+    say_answer(no, value);
+    false
+}
+
+// The four words of a cell, the same on both boards.
+fn cell_seen(at: Run, row: Row, words: &mut [u32], others: &mut [u32]) -> Run {
+    let next = at.stepped();
     label(next.case, next.step);
     say(b" cell ");
     number(row.1);
     say(b" -> ");
-    say_words(c.word, c.value, c.number, c.commit);
-    let right = (c.word == row.2) & (c.value == row.3) & (c.number == row.4) & (c.commit == row.5);
+    let c = cell_of(words, row.1);
+    say_words(c);
+    let right = same_words(
+        c,
+        Cell {
+            word: row.2,
+            value: row.3,
+            number: row.4,
+            commit: row.5,
+        },
+    );
     if !right {
         say(b", document 01 says ");
-        say_words(row.2, row.3, row.4, row.5);
+        say_words(Cell {
+            word: row.2,
+            value: row.3,
+            number: row.4,
+            commit: row.5,
+        });
+    }
+    let o = cell_of(others, row.1);
+    let right_sent = same_words(o, c);
+    if !right_sent {
+        say(b", as bytes ");
+        say_words(o);
     }
     say(b"\n");
-    next.checked(right)
+    next.checked(right & right_sent)
+}
+
+// A cell of the words; four zeros where there is no such cell.
+fn cell_of(words: &[u32], n: u32) -> Cell {
+    let i = n as usize;
+    if cells::count(words) <= i {
+        return Cell {
+            word: 0,
+            value: 0,
+            number: 0,
+            commit: 0,
+        };
+    }
+    cells::cell_at(words, i)
+}
+
+fn same_words(a: Cell, b: Cell) -> bool {
+    (a.word == b.word) & (a.value == b.value) & (a.number == b.number) & (a.commit == b.commit)
 }
 
 impl Run {
@@ -555,6 +656,30 @@ impl Run {
         }
         self.case = case;
         self.step = 0;
+        self
+    }
+
+    // So many words are lent.
+    fn lent(mut self, length: usize) -> Self {
+        self.length = length;
+        self
+    }
+
+    // A call was answered, as a value and as bytes.
+    fn answered(self, row: Row, a: Answered, s: Sent) -> Self {
+        let answer = a.answer;
+        let right = said(answer, row);
+        let right_sent = said_as_bytes(s, row);
+        say(b"\n");
+        let board = a.board;
+        let served = s.board;
+        self.now(board, served).checked(right & right_sent)
+    }
+
+    // The records of the two boards.
+    fn now(mut self, board: Board, served: Board) -> Self {
+        self.board = board;
+        self.served = served;
         self
     }
 
@@ -595,6 +720,16 @@ fn call_of(row: Row) -> Call {
     Call::Rollback { place: row.1 }
 }
 
+// The lesser of two numbers.
+fn least(a: usize, b: usize) -> usize
+    ensures { λ r. ⌜ (r ≤ a) × (r ≤ b) ⌝ }
+{
+    if a <= b {
+        return a;
+    }
+    b
+}
+
 // Every word 0.
 fn clear(words: &mut [u32]) {
     for i in 0..words.len() {
@@ -622,14 +757,14 @@ fn label(case: u32, step: u32) {
     number(step);
 }
 
-fn say_words(a: u32, b: u32, c: u32, d: u32) {
-    number(a);
+fn say_words(c: Cell) {
+    number(c.word);
     say(b" ");
-    number(b);
+    number(c.value);
     say(b" ");
-    number(c);
+    number(c.number);
     say(b" ");
-    number(d);
+    number(c.commit);
 }
 
 // The kind, the place, the key if it names one, and the value if it names one.

@@ -3,16 +3,19 @@
 //! Every peer of a workload first does the same short piece of it, and what it read and refused is compared. Then they
 //! are measured in turn, many times over, by the processor time of the one thread that works, and the best of each
 //! counts, so that a busy machine disturbs little and all alike. For the desk program it is its process's time.
+//! Under an emulator, which host/x86.sh names in LANE_EMULATOR, all is run and compared, but no time says anything.
 
 use peers::{Peer, Proved, Twin};
+use program::emulator;
 use std::hint::black_box;
 use std::io::{Read, Write};
-use std::path::PathBuf;
-use std::process::{Command, Stdio};
+use std::process::Stdio;
 use std::time::Duration;
 use work::{One, Reads, Rng, Sixteen, Work};
 
 mod peers;
+#[path = "../../compare/src/program.rs"]
+mod program;
 mod work;
 
 /// How often each peer is measured, and for how long at least: many short measurements, since some of them will fall into
@@ -180,9 +183,8 @@ fn stream(transactions: u64) -> Vec<u8> {
 
 /// What the desk program writes for this input.
 fn desk(input: &[u8]) -> Result<Vec<u8>, String> {
-    let path = PathBuf::from(env!("CARGO_MANIFEST_DIR")).join("../../target/bin/desk");
-    let missing = |e| format!("target/bin/desk: {e}: run `rt check desk` in the root of the repository");
-    let mut desk = Command::new(path).stdin(Stdio::piped()).stdout(Stdio::piped()).spawn().map_err(missing)?;
+    let missing = |e| format!("{}: {e}", program::MISSING);
+    let mut desk = program::desk().stdin(Stdio::piped()).stdout(Stdio::piped()).spawn().map_err(missing)?;
     let (mut to, mut from) = (desk.stdin.take().expect("piped"), desk.stdout.take().expect("piped"));
     let mut output = Vec::new();
     let read = std::thread::scope(|scope| {
@@ -250,7 +252,7 @@ fn print(rows: &[Row]) {
         println!("{a:<48} {b:<12}{numbers}");
     };
     let heads = ["lane", "twin", "WiredTiger", "WT, each", "lane/twin", "lane/WT", "lane/each"];
-    line("", "a second", heads.map(String::from));
+    line(if emulator().is_some() { "UNDER AN EMULATOR" } else { "" }, "a second", heads.map(String::from));
     for Row { what, unit, rates } in rows {
         let ratio = |i: usize| match (rates[0], rates[i]) {
             (Some(a), Some(b)) => format!("{:.3}", a / b),
@@ -262,6 +264,9 @@ fn print(rows: &[Row]) {
 }
 
 fn goal(what: &str, met: Option<bool>, measured: String) {
+    if emulator().is_some() {
+        return println!("  {what}: not measured, under an emulator");
+    }
     let verdict = match met {
         Some(true) => "met",
         Some(false) => "not met",
@@ -271,6 +276,9 @@ fn goal(what: &str, met: Option<bool>, measured: String) {
 }
 
 fn main() {
+    if let Some(emulator) = emulator() {
+        println!("Under an emulator, {}: no time below says anything about a processor.", emulator.display());
+    }
     let mut w1 = written(|| Box::new(One(Rng::new())));
     race("W1", &mut w1);
     let mut w2 = written(|| Box::new(Sixteen::new()));
@@ -350,7 +358,7 @@ fn main() {
     goal("W3 a read at most twice the plain pass", Some(pass / read <= 2.0), measured);
     if rows[0].rates[2].is_none() {
         println!(
-            "\nWiredTiger is not here. To measure against it: apt-get install libwiredtiger-dev, then ./lane bench"
+            "\nWiredTiger is not here. To measure against it: apt-get install libwiredtiger-dev:amd64, then ./lane bench"
         );
     }
 }

@@ -15,6 +15,8 @@ use std::time::{Duration, Instant};
 pub mod boards;
 pub mod codecs;
 pub mod exhaustive;
+pub mod loops;
+pub mod program;
 pub mod rng;
 pub mod shrink;
 pub mod situations;
@@ -82,6 +84,15 @@ impl Counts {
 
     pub fn of(&self, name: &str) -> u64 {
         self.0.get(name).copied().unwrap_or(0)
+    }
+
+    /// Prints the counts and demands that each of these names was met so often.
+    pub fn met(&self, what: &str, names: &[&str], often: u64) {
+        let line: Vec<String> = self.0.iter().map(|(name, count)| format!("{name} {count}")).collect();
+        say(&format!("{what}: {}", line.join(", ")));
+        for name in names {
+            assert!(self.of(name) >= often, "{what}: {name} was met {} times only", self.of(name));
+        }
     }
 }
 

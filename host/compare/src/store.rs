@@ -1,8 +1,10 @@
 //! The boards that are compared, behind one face: the proved one, the twin, and the twin with a shortcut planted.
 
+use crate::program;
+use std::fs::File;
 use std::io::{Read, Write};
-use std::path::PathBuf;
 use std::process::{Child, Command, Stdio};
+use std::sync::atomic::{AtomicU32, Ordering};
 
 /// Bytes taken, bytes written, why it stopped.
 pub type Served = (u64, u64, u32);
@@ -14,6 +16,10 @@ pub trait Store: Sync {
     fn call(&self, record: &mut [u32], cells: &mut [u32], numbers: [u32; 4]) -> (u32, u32);
     fn serve(&self, record: &mut [u32], cells: &mut [u32], calls: &[u8], answers: &mut [u8]) -> Served;
     fn desk(&self, input: &[u8]) -> Vec<u8>;
+    /// The same with the input in a file, where each read gets as many bytes as it has room for.
+    fn desk_on_file(&self, input: &[u8]) -> Vec<u8> {
+        self.desk(input)
+    }
 }
 
 /// The proved board: `lane_call` and `lane_serve` of the static library, and the desk program.
@@ -37,27 +43,45 @@ impl Store for Proved {
     fn desk(&self, input: &[u8]) -> Vec<u8> {
         let mut desk = desk_program();
         let mut to = desk.stdin.take().expect("piped");
-        let mut from = desk.stdout.take().expect("piped");
-        let mut output = Vec::new();
         std::thread::scope(|scope| {
             // The desk may stop early, and then reads no further: a broken pipe is no failure.
             scope.spawn(move || to.write_all(input).unwrap_or(()));
-            from.read_to_end(&mut output).expect("the desk's output");
-        });
-        let status = desk.wait().expect("the desk program ends");
-        assert!(status.success(), "the desk program ended with {status}");
-        output
+            written_by(desk)
+        })
+    }
+
+    fn desk_on_file(&self, input: &[u8]) -> Vec<u8> {
+        written_by(start(program::desk().stdin(kept(input)).stdout(Stdio::piped())))
     }
 }
 
 /// The proved desk program, started with both ends piped.
 pub fn desk_program() -> Child {
-    let path = PathBuf::from(env!("CARGO_MANIFEST_DIR")).join("../../target/bin/desk");
-    Command::new(&path)
-        .stdin(Stdio::piped())
-        .stdout(Stdio::piped())
-        .spawn()
-        .unwrap_or_else(|e| panic!("target/bin/desk: {e}: run `rt check desk` in the root of the repository"))
+    start(program::desk().stdin(Stdio::piped()).stdout(Stdio::piped()))
+}
+
+pub fn start(desk: &mut Command) -> Child {
+    desk.spawn().unwrap_or_else(|e| panic!("{}: {e}", program::MISSING))
+}
+
+/// All that a desk writes until it ends.
+fn written_by(mut desk: Child) -> Vec<u8> {
+    let mut output = Vec::new();
+    desk.stdout.take().expect("piped").read_to_end(&mut output).expect("the desk's output");
+    let status = desk.wait().expect("the desk program ends");
+    assert!(status.success(), "the desk program ended with {status}");
+    output
+}
+
+/// A file that holds these bytes and has no name any more, to be read from its start.
+fn kept(bytes: &[u8]) -> File {
+    static COUNT: AtomicU32 = AtomicU32::new(0);
+    let name = format!("lane-{}-{}", std::process::id(), COUNT.fetch_add(1, Ordering::Relaxed));
+    let path = std::env::temp_dir().join(name);
+    std::fs::write(&path, bytes).expect("a file for the desk's input");
+    let file = File::open(&path).expect("a file for the desk's input");
+    std::fs::remove_file(&path).expect("a file of our own");
+    file
 }
 
 /// The second implementation of document 01.

@@ -7,10 +7,17 @@ use std::io::{Read, Write};
 use std::sync::mpsc;
 use std::time::{Duration, Instant};
 use twin::board::Call;
-use twin::records::{call_record, read_answer};
+use twin::records::{call_record, read_answer, read_call};
 
 /// One call record.
 pub type Bytes = [u8; 10];
+
+/// RECORD with place 0 and value 0.
+pub const RECORD: [u8; 8] = [0x41, 0x4E, 12, 0, 0, 0, 0, 0];
+
+/// About as many bytes as the desk reads at once, and more than it reads in two reads.
+pub const READ: usize = 65_536;
+const LONG: usize = 140_000;
 
 /// What a stream is made of.
 #[derive(Clone, Copy)]
@@ -163,18 +170,42 @@ pub fn filled(rng: &mut Rng) -> Vec<Bytes> {
     calls.into_iter().map(bytes).collect()
 }
 
+/// What a desk over this store's `serve` writes: all at once on a fresh board of 1,024 cells, and RECORD for a cut record.
+fn at_once(store: &dyn Store, input: &[u8]) -> Vec<u8> {
+    let ((taken, written, why), mut answers, ..) = on_the_desks_board(input).play(store);
+    answers.truncate(written as usize);
+    if why == twin::words::END && taken < input.len() as u64 {
+        answers.extend(RECORD);
+    }
+    answers
+}
+
+/// These bytes for `serve`, on the board that the desk begins with and with room for every answer.
+fn on_the_desks_board(input: &[u8]) -> codecs::Case {
+    let room = input.len() / 10 * 8;
+    codecs::Case { record: vec![0; 50], cells: vec![0; 4_096], calls: input.to_vec(), room }
+}
+
 /// A stream on which two stores differ, made small.
 fn difference(a: &dyn Store, b: &dyn Store, mut calls: Vec<Bytes>, what: &str) -> Difference {
-    let differ = |calls: &[Bytes]| a.desk(&calls.concat()) != b.desk(&calls.concat());
+    // without a start of the desk program for each try, unless the fault is its own
+    let by_serve = at_once(a, &calls.concat()) != at_once(b, &calls.concat());
+    let both = |calls: &[Bytes]| {
+        [a, b].map(|store| if by_serve { at_once(store, &calls.concat()) } else { store.desk(&calls.concat()) })
+    };
+    let differ = |calls: &[Bytes]| {
+        let [x, y] = both(calls);
+        x != y
+    };
     // nothing after the first answer that differs is needed
-    let (x, y) = (a.desk(&calls.concat()), b.desk(&calls.concat()));
+    let [x, y] = both(&calls);
     let first = x.iter().zip(&y).position(|(p, q)| p != q).unwrap_or(x.len().min(y.len())) / 8;
     let mut prefix = calls.clone();
     prefix.truncate(first + 1);
     if differ(&prefix) {
         calls = prefix;
     }
-    // each try runs a program, and some streams are dear: what is found in half a minute has to do
+    // some streams are dear: what is found in half a minute has to do
     let begun = Instant::now();
     shrink::drop_parts(&mut calls, 1, &mut |calls| begun.elapsed() < Duration::from_secs(30) && differ(calls));
     bytes_difference(a, b, &calls.concat(), what)
@@ -229,43 +260,117 @@ pub fn compare(a: &dyn Store, b: &dyn Store, seed: u64, calls: u64, each: usize)
     Ok(counts)
 }
 
-/// A few short streams cut after every byte, and with every byte damaged, left out or put in. Gives how many they were.
-pub fn damaged(a: &dyn Store, b: &dyn Store, seed: u64, streams: u64) -> Result<u64, Difference> {
+/// How many cases there were, and how often they made the desk program start.
+pub struct Damaged {
+    pub cases: u64,
+    pub starts: u64,
+}
+
+/// A few short streams cut after every byte, and with every byte damaged, left out or put in.
+///
+/// Every case is served by `serve` on the desk's board, and answers, record and words are compared. What the desk program
+/// adds is its loop around the same `serve`: it reads, keeps what is left of a cut record, and stops. That loop does not look
+/// into a record, so it can go wrong by the length of the input and by where in it the bytes are that are no call, and not
+/// by which they are. So the program gets all the cases that it answers to their end, one behind the other in one run for
+/// each stream; and of the cases at which it stops, each one starting it anew, those of every byte and every kind of damage
+/// once, taken from the streams in turn. (A start takes a twentieth of a second under an emulator.) That wrong loops are
+/// caught by so many is tried out with those in `loops`.
+pub fn damaged(a: &dyn Store, b: &dyn Store, seed: u64, streams: usize) -> Result<Damaged, Difference> {
     let mut rng = Rng::new(seed);
-    let mut cases = 0;
+    let mut done = Damaged { cases: 0, starts: 0 };
     let mut progress = Progress::new("damaged streams", 0);
+    let through_the_desk = |input: &[u8]| match a.desk(input) == b.desk(input) {
+        true => Ok(()),
+        false => Err(bytes_difference(a, b, input, "damaged")),
+    };
     for n in 0..streams {
-        let whole = stream(&mut rng, &KINDS[n as usize % KINDS.len()], 8).concat();
-        let mut inputs: Vec<Vec<u8>> = (0..=whole.len()).map(|at| whole[..at].to_vec()).collect();
-        for at in 0..whole.len() {
-            let old = whole[at];
-            for byte in [0, 1, 6, 7, 0xFF, old ^ 1, old ^ 0x80, rng.below(256) as u8] {
-                let mut input = whole.clone();
-                input[at] = byte;
-                inputs.push(input);
+        let whole = stream(&mut rng, &KINDS[n % KINDS.len()], 8).concat();
+        let mut answered = Vec::new();
+        for at in 0..=whole.len() {
+            let in_turn = at % KINDS.len() == n % KINDS.len();
+            for kind in damage(&mut rng, &whole, at) {
+                let mut starts = in_turn;
+                for input in kind {
+                    done.cases += 1;
+                    on_the_desks_board(&input).compare(a, b)?;
+                    if is_answered(&input) {
+                        answered.extend(input);
+                        answered.extend((0..16).flat_map(|place| bytes(Call::Rollback { place })));
+                    } else if starts {
+                        starts = false;
+                        done.starts += 1;
+                        through_the_desk(&input)?;
+                    }
+                }
             }
-            let mut less = whole.clone();
-            less.remove(at);
-            let mut more = whole.clone();
-            more.insert(at, rng.pick(&[0, 0x43, 0x4C, old]));
-            inputs.extend([less, more]);
+            progress.at(done.cases);
         }
-        for input in inputs {
-            cases += 1;
-            progress.at(cases);
-            if a.desk(&input) != b.desk(&input) {
-                return Err(bytes_difference(a, b, &input, "damaged"));
-            }
+        done.starts += 1;
+        through_the_desk(&answered)?;
+    }
+    progress.end(done.cases);
+    Ok(done)
+}
+
+/// What is made of a stream at one byte, by kinds of damage: cut before it; another byte for it; without it; with one more.
+fn damage(rng: &mut Rng, whole: &[u8], at: usize) -> Vec<Vec<Vec<u8>>> {
+    let mut kinds = vec![vec![whole[..at].to_vec()]];
+    if let Some(&old) = whole.get(at) {
+        let others = [0, 1, 6, 7, 0xFF, old ^ 1, old ^ 0x80, rng.below(256) as u8];
+        kinds.push(others.iter().map(|&byte| with_byte(whole, at, byte)).collect());
+        let mut less = whole.to_vec();
+        less.remove(at);
+        let mut more = whole.to_vec();
+        more.insert(at, rng.pick(&[0, 0x43, 0x4C, old]));
+        kinds.extend([vec![less], vec![more]]);
+    }
+    kinds
+}
+
+fn with_byte(whole: &[u8], at: usize, byte: u8) -> Vec<u8> {
+    let mut bytes = whole.to_vec();
+    bytes[at] = byte;
+    bytes
+}
+
+/// Whether these are whole calls, so that a desk answers them all and would read on.
+fn is_answered(input: &[u8]) -> bool {
+    input.len().is_multiple_of(10) && (0..input.len()).step_by(10).all(|at| read_call(input, at).is_some())
+}
+
+/// Streams longer than what the desk reads at once, from a file, so that each read fills its buffer and a record may be
+/// cut between two reads: whole; cut at the end; with bytes that are no call before such a cut, at it, behind it and far
+/// behind it. Gives how many they were.
+pub fn long(a: &dyn Store, b: &dyn Store, seed: u64) -> Result<u64, Difference> {
+    let mut whole = stream(&mut Rng::new(seed), &KINDS[0], LONG / 10).concat();
+    let mut inputs = vec![whole.clone()];
+    inputs.extend([1, 5, 9].map(|less| whole[..LONG - less].to_vec()));
+    for at in [READ - 16, READ - 6, READ - 1, READ, READ + 3, READ + 4, 100_000, 2 * READ - 7, 2 * READ - 6, LONG - 10]
+    {
+        // within a start, which is no call with any other byte but its place
+        whole[at / 10 * 10..][..10].copy_from_slice(&bytes(Call::Start { place: 0 }));
+        inputs.push(with_byte(&whole, at, !whole[at]));
+    }
+    let cases = inputs.len() as u64;
+    for input in inputs {
+        let (x, y) = (a.desk_on_file(&input), b.desk_on_file(&input));
+        if x != y {
+            let first = x.iter().zip(&y).position(|(p, q)| p != q).unwrap_or(x.len().min(y.len()));
+            return Err(Difference(format!(
+                "{} and {} differ on {} bytes of input from a file (seed {seed:#x}), first in byte {first} of {} and {}",
+                a.name(),
+                b.name(),
+                input.len(),
+                x.len(),
+                y.len()
+            )));
         }
     }
-    progress.end(cases);
     Ok(cases)
 }
 
-/// A console that waits: each call is sent in two parts, and its answer read before the next is sent.
-pub fn waiting(b: &dyn Store, seed: u64, calls: usize) {
-    let mut rng = Rng::new(seed);
-    let stream = stream(&mut rng, &KINDS[0], calls);
+/// A console that waits: sends a part, reads every answer that is due, and sends the next part.
+fn conversation<'a>(parts: impl Iterator<Item = &'a [u8]>) -> Vec<u8> {
     let mut desk = desk_program();
     let mut to = desk.stdin.take().expect("piped");
     let mut from = desk.stdout.take().expect("piped");
@@ -276,21 +381,46 @@ pub fn waiting(b: &dyn Store, seed: u64, calls: usize) {
             send.send(answer).expect("the console waits");
         }
     });
-    let mut output = Vec::new();
-    for call in &stream {
-        let cut = rng.below(10) as usize;
-        to.write_all(&call[..cut]).expect("the desk reads");
-        to.flush().expect("the desk reads");
+    let (mut sent, mut output) = (0, Vec::new());
+    for part in parts {
+        to.write_all(part).expect("the desk reads");
+        sent += part.len();
+        while output.len() < sent / 10 * 8 {
+            // no measure of speed: without it a desk that waits for more input would hold up the tests for ever
+            let answer = answers.recv_timeout(Duration::from_secs(300)).expect("an answer before more is sent");
+            output.extend(answer);
+        }
         std::thread::sleep(Duration::from_micros(50));
-        to.write_all(&call[cut..]).expect("the desk reads");
-        // no measure of speed: without it a desk that waits for more input would hold up the tests for ever
-        let answer = answers.recv_timeout(Duration::from_secs(300)).expect("an answer before the next call is sent");
-        output.extend(answer);
     }
     drop(to);
+    output.extend(answers.iter().flatten());
     reader.join().expect("the reader ends");
     assert!(desk.wait().expect("the desk ends").success());
-    assert!(output == b.desk(&stream.concat()), "a console that waits gets other answers");
+    output
+}
+
+/// Each call sent in two parts, and its answer read before the next is sent.
+pub fn waiting(b: &dyn Store, seed: u64, calls: usize) {
+    let mut rng = Rng::new(seed);
+    let stream = stream(&mut rng, &KINDS[0], calls);
+    let parts = stream.iter().flat_map(|call| <[&[u8]; 2]>::from(call.split_at(rng.below(10) as usize)));
+    assert!(conversation(parts) == b.desk(&stream.concat()), "a console that waits gets other answers");
+}
+
+/// A long stream in parts of any length, each answered before the next is sent, with a cut record at its end: every part
+/// but a few ends within a record, and what comes of that record is kept for the next read.
+pub fn in_parts(b: &dyn Store, seed: u64) {
+    let mut rng = Rng::new(seed);
+    let mut whole = stream(&mut rng, &KINDS[1], LONG / 10).concat();
+    whole.truncate(LONG - 3);
+    let (mut parts, mut rest) = (Vec::new(), &whole[..]);
+    while !rest.is_empty() {
+        let most = rng.pick(&[9, 100, 5_000, READ as u32 + 100]);
+        let (part, behind) = rest.split_at(rest.len().min(rng.from_to(1, most) as usize));
+        parts.push(part);
+        rest = behind;
+    }
+    assert!(conversation(parts.into_iter()) == b.desk(&whole), "a console that sends parts gets other answers");
 }
 
 /// Streams on small boards through `lane_serve`, in pieces of any length with any room for answers: what each piece

@@ -1,22 +1,13 @@
-//! The comparisons of the gate, on two cores in about two minutes. `LANE_ROUNDS=n` multiplies the numbers of cases.
+//! The comparisons of the proved library with the twin, and what was planted to measure them. (Those of the desk program are
+//! in desk.rs.) `LANE_ROUNDS=n` multiplies the numbers of cases.
 
 use compare::store::SHORTCUTS;
-use compare::{boards, codecs, exhaustive, rounds, say, situations, streams, Counts, Proved, Store, Twin};
+use compare::{boards, codecs, exhaustive, rounds, say, situations, streams, Proved, Store, Twin};
 
 /// The gate's numbers of cases for one round.
 const BOARDS: u64 = 300_000;
-const STREAM_CALLS: u64 = 500_000;
 const PIECE_CALLS: u64 = 200_000;
 const SEQUENCES: u64 = 500_000;
-
-/// Prints the counts and demands that each of these names was met so often.
-fn met(what: &str, counts: &Counts, names: &[&str], often: u64) {
-    let line: Vec<String> = counts.0.iter().map(|(name, count)| format!("{name} {count}")).collect();
-    say(&format!("{what}: {}", line.join(", ")));
-    for name in names {
-        assert!(counts.of(name) >= often, "{what}: {name} was met {} times only", counts.of(name));
-    }
-}
 
 const NUMBERS: [&str; 13] = [
     "OK", "BOARD", "PLACE", "BUSY", "IDLE", "WORN", "SPOILED", "HELD", "KEY", "CONFLICT", "PREPARED", "FULL", "RECORD",
@@ -26,8 +17,8 @@ fn boards(seed: u64) {
     say(&format!("boards: seed {seed:#x}"));
     let half = BOARDS / 2 * rounds();
     let (branches, numbers) = boards::compare(&Proved, &Twin, seed, half).unwrap();
-    met("boards, answers", &numbers, &NUMBERS, half / 200);
-    met("boards, branches", &branches, &boards::BRANCHES, half / 3_000);
+    numbers.met("boards, answers", &NUMBERS, half / 200);
+    branches.met("boards, branches", &boards::BRANCHES, half / 3_000);
 }
 
 #[test]
@@ -41,49 +32,12 @@ fn boards_of_any_words_again() {
 }
 
 #[test]
-fn streams_through_the_desk() {
-    let seed = 0x1A2E_0003;
-    say(&format!("streams: seed {seed:#x}"));
-    let counts = streams::compare(&Proved, &Twin, seed, STREAM_CALLS * rounds(), 2_500).unwrap();
-    let often = ["OK", "PLACE", "BUSY", "IDLE", "SPOILED", "HELD", "KEY", "CONFLICT", "PREPARED"];
-    met("streams, answers", &counts, &often, 500);
-}
-
-#[test]
-fn a_board_filled_to_full_through_the_desk() {
-    let seed = 0x1A2E_0004;
-    say(&format!("filled boards: seed {seed:#x}"));
-    let mut rng = compare::rng::Rng::new(seed);
-    let mut counts = Counts::default();
-    for _ in 0..2 * rounds() {
-        streams::one(&Proved, &Twin, &streams::filled(&mut rng), "filled", &mut counts).unwrap();
-    }
-    met("filled boards, answers", &counts, &["FULL", "OK"], 16 * rounds());
-}
-
-#[test]
-fn streams_damaged_and_cut_everywhere() {
-    let seed = 0x1A2E_0005;
-    say(&format!("damaged streams: seed {seed:#x}"));
-    streams::damaged(&Proved, &Twin, seed, 6 * rounds()).unwrap();
-}
-
-#[test]
-fn a_console_that_waits_for_each_answer() {
-    streams::waiting(&Twin, 0x1A2E_0006, 300);
-}
-
-#[test]
 fn streams_in_pieces_on_small_boards() {
     let seed = 0x1A2E_0007;
     say(&format!("streams in pieces: seed {seed:#x}"));
     let counts = streams::pieces(&Proved, &Twin, seed, PIECE_CALLS * rounds()).unwrap();
-    met(
-        "streams in pieces, answers",
-        &counts,
-        &["OK", "CONFLICT", "PREPARED", "FULL", "HELD", "SPOILED", "RECORD"],
-        50,
-    );
+    let often = ["OK", "CONFLICT", "PREPARED", "FULL", "HELD", "SPOILED", "RECORD"];
+    counts.met("streams in pieces, answers", &often, 50);
 }
 
 #[test]
@@ -138,7 +92,7 @@ fn the_four_shortcuts_are_caught() {
         let mut rng = compare::rng::Rng::new(0x1A2E_0008);
         let found = [
             ("boards", boards::compare(&Proved, shortcut, rng.draw(), BOARDS).err()),
-            ("streams", streams::compare(&Proved, shortcut, rng.draw(), STREAM_CALLS, 500).err()),
+            ("streams", streams::compare(&Proved, shortcut, rng.draw(), 50_000, 500).err()),
             ("streams in pieces", streams::pieces(&Proved, shortcut, rng.draw(), PIECE_CALLS).err()),
             ("sequences", exhaustive::compare(&Proved, shortcut, 2, SEQUENCES).err()),
         ];
@@ -156,7 +110,7 @@ fn the_four_shortcuts_are_caught() {
 #[cfg(feature = "misreadings")]
 #[test]
 fn misreadings_are_caught() {
-    let mut caught = Counts::default();
+    let mut caught = compare::Counts::default();
     let filled = streams::filled(&mut compare::rng::Rng::new(0x1A2E_0004)).concat();
     let answers = Proved.desk(&filled);
     for misreading in &compare::store::MISREADINGS {
@@ -174,5 +128,5 @@ fn misreadings_are_caught() {
         say(&format!("{by} caught {}", misreading.name()));
         caught.add(by);
     }
-    met("misreadings caught", &caught, &["boards", "records", "damaged streams"], 1);
+    caught.met("misreadings caught", &["boards", "records", "damaged streams"], 1);
 }

@@ -34,7 +34,7 @@ pub enum Why {
 mod c {
     /// `struct lane_served` of include/lane.h.
     #[repr(C)]
-    pub struct Served {
+    pub struct LaneServed {
         pub taken: u64,
         pub written: u64,
         pub why: u32,
@@ -61,7 +61,7 @@ mod c {
             call_bytes: usize,
             answers: *mut u8,
             answer_bytes: usize,
-        ) -> Served;
+        ) -> LaneServed;
     }
 }
 
@@ -109,7 +109,7 @@ pub fn call_number(record: &mut [u32], cells: &mut [u32], kind: u32, place: u32,
 /// ```
 pub fn serve(record: &mut [u32], cells: &mut [u32], calls: &[u8], answers: &mut [u8]) -> Served {
     // SAFETY: three exclusive slices and a shared one, as above.
-    let c::Served { taken, written, why } = unsafe {
+    let c::LaneServed { taken, written, why } = unsafe {
         let (record, record_words) = (record.as_mut_ptr(), record.len());
         let (cells, cell_words) = (cells.as_mut_ptr(), cells.len());
         let (room, answer_bytes) = (answers.as_mut_ptr(), answers.len());

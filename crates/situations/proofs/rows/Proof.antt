@@ -7,10 +7,11 @@ use Rattle.situations.proofs.rows.Statement.{statement}
 use Rattle.situations.proofs.rows.Tie as tie
 
 abbrev Inv-loop : tie.InvT-loop
-Inv-loop words₀ table at₀ i₀ words at i = (length table ≡ 12) × (length words ≡ length words₀)
+Inv-loop words₀ others₀ table at₀ i₀ words others at i =
+    (length table ≡ 12) × (length words ≡ length words₀) × (length others ≡ length others₀)
 
 abbrev μ-loop : tie.MeasureT-loop
-μ-loop words₀ table at₀ i₀ words at i = 12 - i
+μ-loop words₀ others₀ table at₀ i₀ words others at i = 12 - i
 
 loop-holds : tie.Need-loop-holds Inv-loop μ-loop
 loop-holds c = search needs
@@ -36,6 +37,9 @@ loop-again c = search needs
 same-length : tie.Need-same-length Inv-loop μ-loop
 same-length c = search needs
 
+same-length-2 : tie.Need-same-length-2 Inv-loop μ-loop
+same-length-2 c = search needs
+
 returns : tie.Need-returns Inv-loop μ-loop
 returns c = search needs
 
@@ -53,4 +57,5 @@ rows-spec =
     loop-less
     loop-again
     same-length
+    same-length-2
     returns)

@@ -7,13 +7,16 @@ use Rattle.situations.proofs.run_all.Statement.{statement}
 use Rattle.situations.proofs.run_all.Tie as tie
 
 abbrev Inv-loop : tie.InvT-loop
-Inv-loop words₀ at₀ i₀ t4 t5 words at i = length words ≡ length words₀
+Inv-loop words₀ others₀ at₀ i₀ t4 t5 words others at i = (length words ≡ length words₀) × (length others ≡ length others₀)
 
 abbrev μ-loop : tie.MeasureT-loop
-μ-loop words₀ at₀ i₀ t4 t5 words at i = 20 - i
+μ-loop words₀ others₀ at₀ i₀ t4 t5 words others at i = 20 - i
 
 fresh-requires : tie.Need-fresh-requires Inv-loop μ-loop
 fresh-requires c κs = search needs
+
+fresh-requires-2 : tie.Need-fresh-requires-2 Inv-loop μ-loop
+fresh-requires-2 c κs = search needs
 
 loop-holds : tie.Need-loop-holds Inv-loop μ-loop
 loop-holds c = search needs
@@ -54,6 +57,9 @@ say-requires-2 c κs = search needs
 same-length : tie.Need-same-length Inv-loop μ-loop
 same-length c = search needs
 
+same-length-2 : tie.Need-same-length-2 Inv-loop μ-loop
+same-length-2 c = search needs
+
 returns : tie.Need-returns Inv-loop μ-loop
 returns c = search needs
 
@@ -64,6 +70,7 @@ run-all-spec =
     Inv-loop
     μ-loop
     fresh-requires
+    fresh-requires-2
     loop-holds
     table-requires
     rows-requires
@@ -77,4 +84,5 @@ run-all-spec =
     slice-aggregate-say-2
     say-requires-2
     same-length
+    same-length-2
     returns)

@@ -1,0 +1,287 @@
+-- Records: one of each kind, as bytes and back, and bytes that are next to one and are none.
+-- Assumes nothing.
+use Prim.Native.Nat.{ℕ}
+use mathlib.Core.List.{List, [], _∷_, _++_}
+use lib.ListN.{replicate}
+use Rattle.records.specs.declared.Call.{Call}
+use Rattle.records.specs.declared.CallRead.{CallRead}
+use Rattle.records.specs.declared.Answer.{Answer}
+use Rattle.records.specs.declared.AnswerRead.{AnswerRead}
+use Rattle.records.specs.declared.Reply.{Reply}
+use Rattle.records.specs.Format.{Written, callAt, answerAt, writtenCall, writtenAnswer}
+use Rattle.edges.specs.Names.{Agree, RECORD, zeros, eight, ten}
+
+infix 70 _is_
+-- a call, or an answer with its place, and its record
+pub record Has (A : Type 0) : Type 0 where
+  pub what : A
+  pub bytes : List ℕ
+
+-- its record is this
+abbrev pub _is_ : {A : Type 0} → A → List ℕ → Has A
+_is_ a bs = record { what = a; bytes = bs }
+
+-- bytes, an offset, and what is read there
+pub record Reads (R : Type 0) : Type 0 where
+  pub bytes : List ℕ
+  pub at : ℕ
+  pub read : R
+
+-- in these bytes, at this offset, this is read
+abbrev pub reads : {R : Type 0} → List ℕ → ℕ → R → Reads R
+reads bs at r = record { bytes = bs; at = at; read = r }
+
+-- bytes, an offset, what is written there, and what that gives
+pub record Writes (A : Type 0) : Type 0 where
+  pub bytes : List ℕ
+  pub at : ℕ
+  pub what : A
+  pub gives : Written
+
+-- OK: done, with value 0, and these are the bytes afterwards
+abbrev pub wroteAll : List ℕ → Written
+wroteAll after = record { number = 0; value = 0; bytes = after }
+
+-- writing there is OK, and leaves these bytes
+abbrev pub writes : {A : Type 0} → List ℕ → ℕ → A → List ℕ → Writes A
+writes bs at a after = record { bytes = bs; at = at; what = a; gives = wroteAll after }
+
+-- writing there is RECORD, and no byte changes
+abbrev pub refuses : {A : Type 0} → List ℕ → ℕ → A → Writes A
+refuses bs at a = record { bytes = bs; at = at; what = a; gives = record { number = RECORD; value = 0; bytes = bs } }
+
+-- CALLS
+
+-- Call, 10 bytes: 43 4C, kind (1 start, 2 read, 3 update, 4 prepare, 5 commit, 6 rollback), place byte, key in two bytes, value in four
+abbrev pub callRows : List (Has Call)
+callRows =
+    Call.Start 1 is ten 0x43 0x4C 0x01 0x01 0x00 0x00 0x00 0x00 0x00 0x00
+    ∷ Call.Read 2 7 is ten 0x43 0x4C 0x02 0x02 0x07 0x00 0x00 0x00 0x00 0x00
+    ∷ Call.Update 3 7 12 is ten 0x43 0x4C 0x03 0x03 0x07 0x00 0x0C 0x00 0x00 0x00
+    ∷ Call.Prepare 4 is ten 0x43 0x4C 0x04 0x04 0x00 0x00 0x00 0x00 0x00 0x00
+    ∷ Call.Commit 5 is ten 0x43 0x4C 0x05 0x05 0x00 0x00 0x00 0x00 0x00 0x00
+    ∷ Call.Rollback 15 is ten 0x43 0x4C 0x06 0x0F 0x00 0x00 0x00 0x00 0x00 0x00
+    -- numbers are little-endian
+    ∷ Call.Update 0 0x0201 0x06050403 is ten 0x43 0x4C 0x03 0x00 0x01 0x02 0x03 0x04 0x05 0x06
+    ∷ Call.Read 0 0x0201 is ten 0x43 0x4C 0x02 0x00 0x01 0x02 0x00 0x00 0x00 0x00
+    -- places and keys out of range are well-formed here
+    ∷ Call.Start 16 is ten 0x43 0x4C 0x01 0x10 0x00 0x00 0x00 0x00 0x00 0x00
+    ∷ Call.Read 255 256 is ten 0x43 0x4C 0x02 0xFF 0x00 0x01 0x00 0x00 0x00 0x00
+    ∷ Call.Update 255 65_535 4_294_967_295 is ten 0x43 0x4C 0x03 0xFF 0xFF 0xFF 0xFF 0xFF 0xFF 0xFF
+    ∷ []
+
+-- bytes that are no call record
+abbrev pub noCalls : List (List ℕ)
+noCalls =
+    -- another mark, an answer's too
+    ten 0x42 0x4C 0x01 0x00 0x00 0x00 0x00 0x00 0x00 0x00
+    ∷ ten 0x43 0x4D 0x01 0x00 0x00 0x00 0x00 0x00 0x00 0x00
+    ∷ ten 0x4C 0x43 0x01 0x00 0x00 0x00 0x00 0x00 0x00 0x00
+    ∷ ten 0x41 0x4E 0x01 0x00 0x00 0x00 0x00 0x00 0x00 0x00
+    -- kinds 0, 7 and 255
+    ∷ ten 0x43 0x4C 0x00 0x00 0x00 0x00 0x00 0x00 0x00 0x00
+    ∷ ten 0x43 0x4C 0x07 0x00 0x00 0x00 0x00 0x00 0x00 0x00
+    ∷ ten 0x43 0x4C 0xFF 0x00 0x00 0x00 0x00 0x00 0x00 0x00
+    -- key is zero except in kinds 2 and 3
+    ∷ ten 0x43 0x4C 0x01 0x00 0x01 0x00 0x00 0x00 0x00 0x00
+    ∷ ten 0x43 0x4C 0x01 0x00 0x00 0x01 0x00 0x00 0x00 0x00
+    ∷ ten 0x43 0x4C 0x04 0x00 0x01 0x00 0x00 0x00 0x00 0x00
+    ∷ ten 0x43 0x4C 0x05 0x00 0x01 0x00 0x00 0x00 0x00 0x00
+    ∷ ten 0x43 0x4C 0x06 0x00 0x01 0x00 0x00 0x00 0x00 0x00
+    -- value zero except in kind 3
+    ∷ ten 0x43 0x4C 0x01 0x00 0x00 0x00 0x01 0x00 0x00 0x00
+    ∷ ten 0x43 0x4C 0x02 0x00 0x07 0x00 0x01 0x00 0x00 0x00
+    ∷ ten 0x43 0x4C 0x02 0x00 0x07 0x00 0x00 0x00 0x00 0x01
+    ∷ ten 0x43 0x4C 0x04 0x00 0x00 0x00 0x01 0x00 0x00 0x00
+    ∷ ten 0x43 0x4C 0x05 0x00 0x00 0x00 0x01 0x00 0x00 0x00
+    ∷ ten 0x43 0x4C 0x06 0x00 0x00 0x00 0x01 0x00 0x00 0x00
+    -- a cut record: nine bytes, one, none
+    ∷ (0x43 ∷ 0x4C ∷ 0x01 ∷ 0x00 ∷ 0x00 ∷ 0x00 ∷ 0x00 ∷ 0x00 ∷ 0x00 ∷ [])
+    ∷ (0x43 ∷ [])
+    ∷ zeros 0
+    ∷ []
+
+-- a start at place 1 and a commit at place 5, with a byte before and a byte behind them
+abbrev pub startAndCommit : List ℕ
+startAndCommit =
+    (0xEE ∷ [])
+    ++ ten 0x43 0x4C 0x01 0x01 0x00 0x00 0x00 0x00 0x00 0x00
+    ++ ten 0x43 0x4C 0x05 0x05 0x00 0x00 0x00 0x00 0x00 0x00
+    ++ (0xEE ∷ [])
+
+-- reading takes the record at a given offset in lent bytes; an offset past the end is RECORD
+abbrev pub callReads : List (Reads CallRead)
+callReads =
+    reads startAndCommit 0 CallRead.Record
+    ∷ reads startAndCommit 1 (CallRead.Good (Call.Start 1))
+    ∷ reads startAndCommit 2 CallRead.Record
+    ∷ reads startAndCommit 11 (CallRead.Good (Call.Commit 5))
+    ∷ reads startAndCommit 12 CallRead.Record
+    ∷ reads startAndCommit 13 CallRead.Record
+    ∷ reads startAndCommit 21 CallRead.Record
+    ∷ reads startAndCommit 22 CallRead.Record
+    ∷ reads startAndCommit 23 CallRead.Record
+    ∷ reads startAndCommit 18_446_744_073_709_551_615 CallRead.Record
+    ∷ []
+
+-- writing puts it from a given offset and changes no other byte; on RECORD no byte changes
+abbrev pub callWrites : List (Writes Call)
+callWrites =
+    writes (replicate 12 0xEE) 0 (Call.Start 1) (ten 0x43 0x4C 0x01 0x01 0x00 0x00 0x00 0x00 0x00 0x00 ++ 0xEE ∷ 0xEE ∷ [])
+    ∷ writes (replicate 12 0xEE) 2 (Call.Start 1) (0xEE ∷ 0xEE ∷ ten 0x43 0x4C 0x01 0x01 0x00 0x00 0x00 0x00 0x00 0x00)
+    -- fewer than 10 bytes to write one in
+    ∷ refuses (replicate 12 0xEE) 3 (Call.Start 1)
+    ∷ refuses (replicate 12 0xEE) 12 (Call.Start 1)
+    ∷ refuses (replicate 12 0xEE) 13 (Call.Start 1)
+    ∷ refuses (replicate 12 0xEE) 18_446_744_073_709_551_615 (Call.Start 1)
+    ∷ refuses (replicate 9 0xEE) 0 (Call.Start 1)
+    ∷ refuses [] 0 (Call.Start 1)
+    -- a call that has no record: its place is above 255, or its key above 65,535
+    ∷ refuses (replicate 12 0xEE) 0 (Call.Start 256)
+    ∷ refuses (replicate 12 0xEE) 0 (Call.Read 256 7)
+    ∷ refuses (replicate 12 0xEE) 0 (Call.Update 256 7 12)
+    ∷ refuses (replicate 12 0xEE) 0 (Call.Prepare 256)
+    ∷ refuses (replicate 12 0xEE) 0 (Call.Commit 256)
+    ∷ refuses (replicate 12 0xEE) 0 (Call.Rollback 4_294_967_295)
+    ∷ refuses (replicate 12 0xEE) 0 (Call.Read 0 65_536)
+    ∷ refuses (replicate 12 0xEE) 0 (Call.Update 0 65_536 12)
+    ∷ []
+
+-- every call, written into ten bytes, gives its record
+abbrev pub CallsWritten : Type 0
+CallsWritten = Agree (λ (r : Has Call). writtenCall (zeros 10) 0 (r .what)) (λ (r : Has Call). wroteAll (r .bytes)) callRows
+
+-- and every record, read, gives its call
+abbrev pub CallsRead : Type 0
+CallsRead = Agree (λ (r : Has Call). callAt (r .bytes) 0) (λ (r : Has Call). CallRead.Good (r .what)) callRows
+
+-- what is no call record is RECORD
+abbrev pub NoCallsRead : Type 0
+NoCallsRead = Agree (λ bs. callAt bs 0) (λ bs. CallRead.Record) noCalls
+
+-- at every offset
+abbrev pub CallsReadAt : Type 0
+CallsReadAt = Agree (λ (r : Reads CallRead). callAt (r .bytes) (r .at)) (λ (r : Reads CallRead). r .read) callReads
+
+-- and writing at every offset gives what is said
+abbrev pub CallsWrittenAt : Type 0
+CallsWrittenAt = Agree (λ (r : Writes Call). writtenCall (r .bytes) (r .at) (r .what)) (λ (r : Writes Call). r .gives) callWrites
+
+-- ANSWERS
+
+-- an answer with its place
+abbrev pub reply : ℕ → Answer → Reply
+reply place a = record { place = place; answer = a }
+
+-- Answer, 8 bytes: 41 4E, refusal number 0 to 12, place byte, value in four. With a number from 1 to 12 the value is zero.
+abbrev pub answerRows : List (Has Reply)
+answerRows =
+    reply 0 (Answer.Ok 12) is eight 0x41 0x4E 0x00 0x00 0x0C 0x00 0x00 0x00
+    ∷ reply 1 Answer.Board is eight 0x41 0x4E 0x01 0x01 0x00 0x00 0x00 0x00
+    ∷ reply 16 Answer.Place is eight 0x41 0x4E 0x02 0x10 0x00 0x00 0x00 0x00
+    ∷ reply 3 Answer.Busy is eight 0x41 0x4E 0x03 0x03 0x00 0x00 0x00 0x00
+    ∷ reply 4 Answer.Idle is eight 0x41 0x4E 0x04 0x04 0x00 0x00 0x00 0x00
+    ∷ reply 5 Answer.Worn is eight 0x41 0x4E 0x05 0x05 0x00 0x00 0x00 0x00
+    ∷ reply 6 Answer.Spoiled is eight 0x41 0x4E 0x06 0x06 0x00 0x00 0x00 0x00
+    ∷ reply 7 Answer.Held is eight 0x41 0x4E 0x07 0x07 0x00 0x00 0x00 0x00
+    ∷ reply 8 Answer.Key is eight 0x41 0x4E 0x08 0x08 0x00 0x00 0x00 0x00
+    ∷ reply 9 Answer.Conflict is eight 0x41 0x4E 0x09 0x09 0x00 0x00 0x00 0x00
+    ∷ reply 10 Answer.Prepared is eight 0x41 0x4E 0x0A 0x0A 0x00 0x00 0x00 0x00
+    ∷ reply 15 Answer.Full is eight 0x41 0x4E 0x0B 0x0F 0x00 0x00 0x00 0x00
+    ∷ reply 0 Answer.Record is eight 0x41 0x4E 0x0C 0x00 0x00 0x00 0x00 0x00
+    -- numbers are little-endian
+    ∷ reply 0 (Answer.Ok 0x04030201) is eight 0x41 0x4E 0x00 0x00 0x01 0x02 0x03 0x04
+    -- any place byte, and with OK any value
+    ∷ reply 255 (Answer.Ok 4_294_967_295) is eight 0x41 0x4E 0x00 0xFF 0xFF 0xFF 0xFF 0xFF
+    ∷ reply 255 Answer.Record is eight 0x41 0x4E 0x0C 0xFF 0x00 0x00 0x00 0x00
+    ∷ []
+
+-- bytes that are no answer record
+abbrev pub noAnswers : List (List ℕ)
+noAnswers =
+    -- another mark, a call's too
+    eight 0x42 0x4E 0x00 0x00 0x00 0x00 0x00 0x00
+    ∷ eight 0x41 0x4D 0x00 0x00 0x00 0x00 0x00 0x00
+    ∷ eight 0x4E 0x41 0x00 0x00 0x00 0x00 0x00 0x00
+    ∷ eight 0x43 0x4C 0x00 0x00 0x00 0x00 0x00 0x00
+    -- numbers 13 and 255
+    ∷ eight 0x41 0x4E 0x0D 0x00 0x00 0x00 0x00 0x00
+    ∷ eight 0x41 0x4E 0xFF 0x00 0x00 0x00 0x00 0x00
+    -- a value beside a refusal
+    ∷ eight 0x41 0x4E 0x01 0x00 0x01 0x00 0x00 0x00
+    ∷ eight 0x41 0x4E 0x02 0x00 0x00 0x01 0x00 0x00
+    ∷ eight 0x41 0x4E 0x03 0x00 0x00 0x00 0x01 0x00
+    ∷ eight 0x41 0x4E 0x04 0x00 0x00 0x00 0x00 0x01
+    ∷ eight 0x41 0x4E 0x05 0x00 0x01 0x00 0x00 0x00
+    ∷ eight 0x41 0x4E 0x06 0x00 0x01 0x00 0x00 0x00
+    ∷ eight 0x41 0x4E 0x07 0x00 0x01 0x00 0x00 0x00
+    ∷ eight 0x41 0x4E 0x08 0x00 0x01 0x00 0x00 0x00
+    ∷ eight 0x41 0x4E 0x09 0x00 0x01 0x00 0x00 0x00
+    ∷ eight 0x41 0x4E 0x0A 0x00 0x01 0x00 0x00 0x00
+    ∷ eight 0x41 0x4E 0x0B 0x00 0x01 0x00 0x00 0x00
+    ∷ eight 0x41 0x4E 0x0C 0x00 0x01 0x00 0x00 0x00
+    -- a cut record: seven bytes, one, none
+    ∷ (0x41 ∷ 0x4E ∷ 0x00 ∷ 0x00 ∷ 0x01 ∷ 0x00 ∷ 0x00 ∷ [])
+    ∷ (0x41 ∷ [])
+    ∷ zeros 0
+    ∷ []
+
+-- OK with value 1 at place 2 and BUSY at place 3, with a byte before and a byte behind them
+abbrev pub okAndBusy : List ℕ
+okAndBusy =
+    (0xEE ∷ [])
+    ++ eight 0x41 0x4E 0x00 0x02 0x01 0x00 0x00 0x00
+    ++ eight 0x41 0x4E 0x03 0x03 0x00 0x00 0x00 0x00
+    ++ (0xEE ∷ [])
+
+-- reading takes the record at a given offset in lent bytes; an offset past the end is RECORD
+abbrev pub answerReads : List (Reads AnswerRead)
+answerReads =
+    reads okAndBusy 0 AnswerRead.Record
+    ∷ reads okAndBusy 1 (AnswerRead.Good (reply 2 (Answer.Ok 1)))
+    ∷ reads okAndBusy 2 AnswerRead.Record
+    ∷ reads okAndBusy 9 (AnswerRead.Good (reply 3 Answer.Busy))
+    ∷ reads okAndBusy 10 AnswerRead.Record
+    ∷ reads okAndBusy 11 AnswerRead.Record
+    ∷ reads okAndBusy 17 AnswerRead.Record
+    ∷ reads okAndBusy 18 AnswerRead.Record
+    ∷ reads okAndBusy 19 AnswerRead.Record
+    ∷ reads okAndBusy 18_446_744_073_709_551_615 AnswerRead.Record
+    ∷ []
+
+-- writing puts it from a given offset and changes no other byte; on RECORD no byte changes
+abbrev pub answerWrites : List (Writes Reply)
+answerWrites =
+    writes (replicate 10 0xEE) 0 (reply 2 (Answer.Ok 1)) (eight 0x41 0x4E 0x00 0x02 0x01 0x00 0x00 0x00 ++ 0xEE ∷ 0xEE ∷ [])
+    ∷ writes (replicate 10 0xEE) 2 (reply 3 Answer.Busy) (0xEE ∷ 0xEE ∷ eight 0x41 0x4E 0x03 0x03 0x00 0x00 0x00 0x00)
+    -- fewer than 8 bytes to write one in
+    ∷ refuses (replicate 10 0xEE) 3 (reply 3 Answer.Busy)
+    ∷ refuses (replicate 10 0xEE) 10 (reply 3 Answer.Busy)
+    ∷ refuses (replicate 10 0xEE) 11 (reply 3 Answer.Busy)
+    ∷ refuses (replicate 10 0xEE) 18_446_744_073_709_551_615 (reply 3 Answer.Busy)
+    ∷ refuses (replicate 7 0xEE) 0 (reply 3 Answer.Busy)
+    ∷ refuses [] 0 (reply 3 Answer.Busy)
+    -- an answer that has no record: its place is above 255
+    ∷ refuses (replicate 10 0xEE) 0 (reply 256 (Answer.Ok 1))
+    ∷ refuses (replicate 10 0xEE) 0 (reply 4_294_967_295 Answer.Busy)
+    ∷ []
+
+-- every answer, written into eight bytes, gives its record
+abbrev pub AnswersWritten : Type 0
+AnswersWritten = Agree (λ (r : Has Reply). writtenAnswer (zeros 8) 0 (r .what)) (λ (r : Has Reply). wroteAll (r .bytes)) answerRows
+
+-- and every record, read, gives its answer
+abbrev pub AnswersRead : Type 0
+AnswersRead = Agree (λ (r : Has Reply). answerAt (r .bytes) 0) (λ (r : Has Reply). AnswerRead.Good (r .what)) answerRows
+
+-- what is no answer record is RECORD
+abbrev pub NoAnswersRead : Type 0
+NoAnswersRead = Agree (λ bs. answerAt bs 0) (λ bs. AnswerRead.Record) noAnswers
+
+-- at every offset
+abbrev pub AnswersReadAt : Type 0
+AnswersReadAt = Agree (λ (r : Reads AnswerRead). answerAt (r .bytes) (r .at)) (λ (r : Reads AnswerRead). r .read) answerReads
+
+-- and writing at every offset gives what is said
+abbrev pub AnswersWrittenAt : Type 0
+AnswersWrittenAt = Agree (λ (r : Writes Reply). writtenAnswer (r .bytes) (r .at) (r .what)) (λ (r : Writes Reply). r .gives) answerWrites

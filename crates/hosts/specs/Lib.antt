@@ -1,0 +1,4 @@
+pub mod Refusals
+pub mod Calls
+pub mod Serves
+pub mod Mixed

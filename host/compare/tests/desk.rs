@@ -1,0 +1,173 @@
+//! The desk program against the twin: what it writes for what it reads, how it stops, and the answers that are stored.
+//! `LANE_ROUNDS=n` multiplies the numbers of cases.
+
+use compare::loops::{Fault, Loop, FAULTS};
+use compare::store::{desk_program, start};
+use compare::{program, rng, rounds, say, streams, Counts, Proved, Store, Twin};
+use std::fs::{self, File};
+use std::io::{ErrorKind, Write};
+use std::path::{Path, PathBuf};
+use std::process::{Child, ExitStatus, Stdio};
+use std::time::{Duration, Instant};
+
+#[test]
+fn streams_through_the_desk() {
+    let seed = 0x1A2E_0003;
+    say(&format!("streams: seed {seed:#x}"));
+    let counts = streams::compare(&Proved, &Twin, seed, 500_000 * rounds(), 2_500).unwrap();
+    let often = ["OK", "PLACE", "BUSY", "IDLE", "SPOILED", "HELD", "KEY", "CONFLICT", "PREPARED"];
+    counts.met("streams, answers", &often, 500);
+}
+
+#[test]
+fn a_board_filled_to_full_through_the_desk() {
+    let seed = 0x1A2E_0004;
+    say(&format!("filled boards: seed {seed:#x}"));
+    let mut rng = rng::Rng::new(seed);
+    let mut counts = Counts::default();
+    for _ in 0..2 * rounds() {
+        streams::one(&Proved, &Twin, &streams::filled(&mut rng), "filled", &mut counts).unwrap();
+    }
+    counts.met("filled boards, answers", &["FULL", "OK"], 16 * rounds());
+}
+
+#[test]
+fn streams_damaged_and_cut_everywhere() {
+    let seed = 0x1A2E_0005;
+    say(&format!("damaged streams: seed {seed:#x}"));
+    let done = streams::damaged(&Proved, &Twin, seed, 6 * rounds() as usize).unwrap();
+    say(&format!("damaged streams: {} cases, {} starts of the desk", done.cases, done.starts));
+}
+
+#[test]
+fn long_streams_from_a_file() {
+    let cases = streams::long(&Proved, &Twin, 0x1A2E_000B).unwrap();
+    say(&format!("long streams: {cases}"));
+}
+
+#[test]
+fn a_long_stream_in_parts() {
+    streams::in_parts(&Twin, 0x1A2E_000C);
+}
+
+#[test]
+fn a_console_that_waits_for_each_answer() {
+    streams::waiting(&Twin, 0x1A2E_0006, 300);
+}
+
+/// Loops that are wrong, and one that is right: the comparisons through the desk are made so that they tell them apart.
+#[test]
+fn wrong_loops_are_caught() {
+    let by = |fault| {
+        let desk = Loop(fault);
+        let found = [
+            ("damaged streams", streams::damaged(&desk, &Twin, 0x1A2E_0005, 6).err()),
+            ("long streams", streams::long(&desk, &Twin, 0x1A2E_000B).err()),
+        ];
+        let names: Vec<&str> = found.iter().filter(|(_, found)| found.is_some()).map(|(name, _)| *name).collect();
+        names.join(", ")
+    };
+    assert_eq!(by(Fault::Nothing), "");
+    for fault in FAULTS {
+        let by = by(fault);
+        assert!(!by.is_empty(), "nothing caught {fault:?}");
+        say(&format!("{by} caught {fault:?}"));
+    }
+}
+
+/// Waits for the end of a desk that is to stop by itself.
+fn ended(mut desk: Child) -> ExitStatus {
+    let begun = Instant::now();
+    loop {
+        if let Some(status) = desk.try_wait().expect("the desk is ours") {
+            return status;
+        }
+        if begun.elapsed() > Duration::from_secs(60) {
+            desk.kill().expect("the desk is ours");
+            panic!("the desk goes on");
+        }
+        std::thread::sleep(Duration::from_millis(1));
+    }
+}
+
+/// A write that fails stops the desk: it waits for no more input, and reads none that is there. (/dev/full refuses every
+/// byte. A closed pipe would end the desk by a signal, whatever it does.)
+#[test]
+fn a_desk_that_cannot_write_stops() {
+    let to_full = || {
+        let full = File::options().write(true).open("/dev/full").expect("/dev/full");
+        start(program::desk().stdin(Stdio::piped()).stdout(full))
+    };
+    let start = [0x43, 0x4C, 1, 0, 0, 0, 0, 0, 0, 0];
+    // the input stays open, and nothing comes
+    let mut desk = to_full();
+    let mut to = desk.stdin.take().expect("piped");
+    to.write_all(&start).expect("the desk reads");
+    assert!(ended(desk).success());
+    assert_eq!(to.write_all(&start).unwrap_err().kind(), ErrorKind::BrokenPipe);
+    // more comes for as long as the desk reads
+    let mut desk = to_full();
+    let mut to = desk.stdin.take().expect("piped");
+    let begun = Instant::now();
+    let refused = loop {
+        if let Err(refused) = to.write_all(&start) {
+            break refused;
+        }
+        assert!(begun.elapsed() < Duration::from_secs(60), "the desk reads on");
+    };
+    assert_eq!(refused.kind(), ErrorKind::BrokenPipe);
+    assert!(ended(desk).success());
+}
+
+/// With LANE_EMULATE=1 it is the emulator that runs, on x86-64 too, where the program alone would run as well.
+#[test]
+fn the_desk_runs_behind_the_emulator_if_there_is_one() {
+    let mut desk = desk_program();
+    let runs = fs::read_link(format!("/proc/{}/exe", desk.id())).expect("/proc");
+    let expected = program::emulator().map_or(PathBuf::from("desk"), PathBuf::from);
+    assert_eq!(runs.file_name(), expected.file_name());
+    drop(desk.stdin.take());
+    assert!(ended(desk).success());
+}
+
+fn crates() -> PathBuf {
+    Path::new(env!("CARGO_MANIFEST_DIR")).join("../../crates")
+}
+
+/// The files of a folder, sorted.
+fn files(folder: &Path) -> Vec<PathBuf> {
+    let entries = fs::read_dir(folder).unwrap_or_else(|e| panic!("{}: {e}", folder.display()));
+    let mut files: Vec<PathBuf> = entries.map(|entry| entry.expect("an entry").path()).collect();
+    files.sort();
+    files
+}
+
+/// Bytes that are stored as a desk's answers to others must be the twin's, and the desk program's.
+fn same_as_stored(input: &Path, answers: &Path) {
+    let [input_bytes, stored] =
+        [input, answers].map(|path| fs::read(path).unwrap_or_else(|e| panic!("{}: {e}", path.display())));
+    for store in [&Twin as &dyn Store, &Proved] {
+        assert!(store.desk(&input_bytes) == stored, "{}: {} answers otherwise", input.display(), store.name());
+    }
+}
+
+/// crates/streams has its streams stored in pairs, NAME and NAME.answers.
+#[test]
+fn the_stored_streams_have_the_twins_answers() {
+    let files = files(&crates().join("streams/data"));
+    let (answers, streams): (Vec<_>, Vec<_>) =
+        files.into_iter().partition(|path| path.extension().is_some_and(|e| e == "answers"));
+    assert!(!streams.is_empty(), "no stream is stored");
+    let named: Vec<PathBuf> = streams.iter().map(|path| path.with_extension("answers")).collect();
+    assert_eq!(named, answers, "(streams with their answers, answers)");
+    streams.iter().zip(&answers).for_each(|(input, answers)| same_as_stored(input, answers));
+    say(&format!("stored streams: {}", streams.len()));
+}
+
+/// A program that is run on standard input is a desk: crates/desk, and any other.
+#[test]
+fn the_stored_runs_of_the_desk_have_the_twins_answers() {
+    let desks: Vec<PathBuf> = files(&crates()).into_iter().filter(|path| path.join("stdin").exists()).collect();
+    assert!(desks.iter().any(|path| path.ends_with("desk")), "crates/desk/stdin is not there");
+    desks.iter().for_each(|path| same_as_stored(&path.join("stdin"), &path.join("stdout")));
+}
