@@ -18,8 +18,7 @@ use Rattle.records.specs.Format.{callBytes, answerBytes, answerRecord}
 use Rattle.steps.specs.declared.Board.{Board}
 use Rattle.lanes.specs.declared.Stop.{Stop}
 use Rattle.lanes.specs.Serve.{noCall, callsIn, Run, runOf, recordsOf, wholeCalls, tried, refused, Service, serveFirst, serveOf}
-use Rattle.lanes.specs.Desk.{answersTo, deskOf, deskWords, serveAll, atEnd, goesOn, inPieces}
-use Rattle.steps.specs.Record.{freshBoard}
+use Rattle.lanes.specs.Desk.{answersTo, deskOf, AtDesk, atFirst, serveAll, goesOn, turnOn, atEnd, inPieces, PiecesPromise}
 use Rattle.lanes.proofs.Calls.{callsIn-front, callsIn-at-most, callsIn-all, callsIn-stop, run-replies, records-append}
 
 -- room for all the answers, or more of it, is the same to serving
@@ -212,20 +211,21 @@ ends b ws cut h =
     ∙ ap (λ (n : ℕ). recordsOf (runOf b ws (callsIn n cut) .replies) ++ cutOff (callsIn n cut) cut) (sym none)
     ∙ ap (answersTo b ws) (sym (append-nil cut))
 
-pub in-pieces : (b : Board) (ws cut : List ℕ) (ps : List (List ℕ)) → length cut < callBytes
-    → inPieces b ws cut ps ≡ answersTo b ws (cut ++ flatten ps)
-unfolding inPieces flatten
-in-pieces b ws cut [] h = ends b ws cut h
-in-pieces b ws cut (p ∷ ps) h =
-    let s : Service = serveAll b ws (cut ++ p) in
-    let left : List ℕ = drop (s .taken) (cut ++ p) in
+pub in-pieces : (d : AtDesk) (ps : List (List ℕ)) → length (d .cut) < callBytes
+    → inPieces d ps ≡ answersTo (d .board) (d .words) (d .cut ++ flatten ps)
+unfolding inPieces turnOn flatten
+in-pieces d [] h = ends (d .board) (d .words) (d .cut) h
+in-pieces d (p ∷ ps) h =
+    let bytes : List ℕ = d .cut ++ p in
+    let s : Service = serveAll (d .board) (d .words) bytes in
+    let next : AtDesk = turnOn (d .board) (d .words) bytes .desk in
     ap (λ (l : List ℕ). s .answers ++ l)
-    (cond-same (goesOn (s .stop)) (inPieces (s .board) (s .words) left ps) (answersTo (s .board) (s .words) (left ++ flatten ps))
-    (λ t. in-pieces (s .board) (s .words) left ps (left-short b ws (cut ++ p) t)))
-    ∙ sym (piece b ws (cut ++ p) (flatten ps))
-    ∙ ap (answersTo b ws) (append-assoc cut p (flatten ps))
+    (cond-same (goesOn (s .stop)) (inPieces next ps) (answersTo (next .board) (next .words) (next .cut ++ flatten ps))
+    (λ t. in-pieces next ps (left-short (d .board) (d .words) bytes t)))
+    ∙ sym (piece (d .board) (d .words) bytes (flatten ps))
+    ∙ ap (answersTo (d .board) (d .words)) (append-assoc (d .cut) p (flatten ps))
 
 -- the input served in any pieces is the input served whole
-pub pieces : (ps : List (List ℕ)) → inPieces freshBoard deskWords [] ps ≡ deskOf (flatten ps)
+pub pieces : PiecesPromise
 unfolding deskOf
-pieces ps = in-pieces freshBoard deskWords [] ps (omega arith)
+pieces ps = in-pieces atFirst ps (omega arith)
