@@ -17,3 +17,4 @@ pub mod Judge
 pub mod Axioms
 pub mod Examples
 pub mod Small
+pub mod Bytes

@@ -2,3 +2,4 @@ pub mod History
 pub mod Verdict
 pub mod Axioms
 pub mod Examples
+pub mod Bytes
