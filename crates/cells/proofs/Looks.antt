@@ -15,7 +15,7 @@ use Rattle.cells.specs.declared.Looked.{Looked}
 use Rattle.cells.specs.Cells.{noCell, cellsOf, ofKey, own, foreign, seenBy}
 use Rattle.cells.specs.Rules.{lowestFrom, mine, ownAt, hasCell, hasForeign, clashes, blocks, conflict, newest, visible, newestSeen}
 use Rattle.cells.specs.Rules.{pickFound, pickCell, lookOf}
-use Rattle.cells.specs.Search.{lowestOf, newestOf, noLook, lookTurn, pickLook, lookFrom}
+use Rattle.cells.specs.Search.{lowestOf, noLook, lookTurn, pickLook, lookFrom}
 use Rattle.cells.proofs.Words.{length-cells, cell-read}
 use Rattle.cells.proofs.Scan.{cells-next, cells-end}
 use Rattle.cells.proofs.Skip.{skip}

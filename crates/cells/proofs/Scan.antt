@@ -3,13 +3,12 @@
 --     has-..        whether one passes
 --     to-..         cells that are changed one by one, in words
 -- Assumes nothing.
-use mathlib.Core.Path.{_≡_, refl, sym, ap, _∙_}
+use mathlib.Core.Path.{_≡_, sym, ap, _∙_}
 use mathlib.Core.Bool.{Bool, true, false}
 use mathlib.Core.List.{List, [], _∷_, map}
 use Prim.Native.Nat.{ℕ, _+_, _/_, _≤_, _<_}
 use lib.ListN.{length, getD, set, drop, drop-of-length-le}
 use Rattle.cells.specs.declared.Cell.{Cell}
-use Rattle.cells.specs.declared.Found.{Found}
 use Rattle.cells.specs.declared.Found.the-variants.{At, Nothing}
 use Rattle.cells.specs.Cells.{noCell, cellsOf, withCells}
 use Rattle.cells.specs.Rules.{lowestFrom, hasCell}

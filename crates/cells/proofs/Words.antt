@@ -98,9 +98,6 @@ pub whole-words : (ws : List ℕ) (cs : List Cell) → length ws % 4 ≡ 0 → w
 unfolding withCells
 whole-words ws cs e = ap (λ (past : List ℕ). wordsOf cs ++ past) (past-whole ws e) ∙ append-none (wordsOf cs)
 
-pub words-cells : (ws : List ℕ) → length ws % 4 ≡ 0 → wordsOf (cellsOf ws) ≡ ws
-words-cells ws e = sym (whole-words ws (cellsOf ws) e) ∙ with-cells ws
-
 -- where the words of the next cell stand
 over : (i j : ℕ) → 4 * suc i + j ≡ suc (suc (suc (suc (4 * i + j))))
 over i j = omega arith

@@ -1,7 +1,7 @@
 // The cells of a lane board: four lent words to a cell. Which word is which is known here alone; that there are four, also to whoever lends them.
 ghost use mathlib.Core.Path.{_≡_};
 ghost use mathlib.Core.List.{map};
-ghost use Prim.Native.Nat.{ℕ, _+_, _/_, _<_};
+ghost use Prim.Native.Nat.{_+_, _<_};
 ghost use lib.ListN.{length, getD, set};
 ghost use Rattle.cells.specs.Cells.{noCell, cellsOf, withCells, countOf, wholeCells};
 ghost use Rattle.cells.specs.Cells.{empty, ofKey, committed, own, foreign, seenBy};

@@ -1,7 +1,6 @@
--- What the records promise, for every run of bytes, every offset, and every call and answer:
---     Promises           of one kind of record: read exactly where it stands, written exactly where it can be, written then
+-- The records keep their promises (specs/Promises.antt), for every run of bytes, every offset, and every call and answer:
+--     calls, answers     the promises of both: read exactly where a record stands, written exactly where it can be, written then
 --                        read the same, read then written the same bytes, every other byte as it was
---     calls, answers     the promises of both
 --     answer-case        number and value determine the case of an answer
 --     written-once       two outcomes of writing that meet the contract are the same
 --     read-once          two results that meet an equation are the same
@@ -22,10 +21,11 @@ use Rattle.records.specs.declared.AnswerRead.{AnswerRead}
 use Rattle.records.specs.declared.Call.{Call}
 use Rattle.records.specs.declared.CallRead.{CallRead}
 use Rattle.records.specs.declared.Reply.{Reply}
-use Rattle.records.specs.Answers.{numberOf, valueOf, placeOf}
+use Rattle.records.specs.Answers.{numberOf, valueOf, placeOf, callReadNumber, callReadValue, answerReadNumber, answerReadValue}
 use Rattle.records.specs.Format.{callBytes, kindOf, keyOf, newValueOf, callFits, callOf, callRecord, callFrom, callIn, callAt}
 use Rattle.records.specs.Format.{answerBytes, replyFits, answerOf, answerRecord, replyFrom, answerIn, answerAt}
 use Rattle.records.specs.Format.{bytesOf, numberIn, sameBytes, goesIn, putAt, Written, wrote, written, writtenCall, writtenAnswer}
+use Rattle.records.specs.Promises.{Stands, Promises}
 use Rattle.records.proofs.Bytes.{both, and-left, and-right, same-equal, same-self, bytes-back, bytes-below, bytes-all, bytes-length}
 use Rattle.records.proofs.Bytes.{put-there, put-before, put-behind, put-length, put-same}
 use Rattle.records.proofs.Fields.{Small, call-small, answer-small, call-length, answer-length}
@@ -110,38 +110,6 @@ reply-sound r =
 
 -- READING AND WRITING
 
--- what is promised of one kind of record: its size, which values have one, what it is, what reading and writing give
-pub record Promises {A R : Type 0} (size : ℕ) (has : A → Bool) (rec : A → List ℕ) (good : A → R) (none : R)
-    (readAt : List ℕ → ℕ → R) (writtenAt : List ℕ → ℕ → A → Written) : Type 0 where
-  -- each record has this many bytes, and no two values that have a record have the same
-  pub long : (a : A) → length (rec a) ≡ size
-  pub one : (a b : A) → has a ≡ true → has b ≡ true → rec a ≡ rec b → a ≡ b
-  -- reading finds a value exactly if it has a record and that stands from the offset on
-  pub reads : (bs : List ℕ) (at : ℕ) (a : A) →
-      (readAt bs at ≡ good a) ↔ ((has a ≡ true) × (take size (drop at bs) ≡ rec a))
-  -- and RECORD exactly if no record stands there
-  pub refuses : (bs : List ℕ) (at : ℕ) →
-      (readAt bs at ≡ none) ↔ ((a : A) → has a ≡ true → take size (drop at bs) ≡ rec a → ⊥)
-  -- so at an offset with too few bytes from there on, at the end and past it
-  pub short : (bs : List ℕ) (at : ℕ) → length bs < at + size → readAt bs at ≡ none
-  -- what stands behind the record is not looked at
-  pub behind : (bs more : List ℕ) (at : ℕ) → at + size ≤ length bs → readAt (bs ++ more) at ≡ readAt bs at
-  -- writing is done exactly if the value has a record and there is room for it
-  pub writes : (bs : List ℕ) (at : ℕ) (a : A) →
-      (writtenAt bs at a .number ≡ 0) ↔ ((has a ≡ true) × (at + size ≤ length bs))
-  -- otherwise the answer is RECORD and no byte changes
-  pub keeps : (bs : List ℕ) (at : ℕ) (a : A) → (has a ≡ false) ⊎ (length bs < at + size) →
-      writtenAt bs at a ≡ wrote Answer.Record bs
-  -- every byte outside the record is as it was, and there are as many
-  pub others : (bs : List ℕ) (at : ℕ) (a : A) (i : ℕ) → (i < at) ⊎ (at + size ≤ i) →
-      getD (writtenAt bs at a .bytes) i 0 ≡ getD bs i 0
-  pub as-long : (bs : List ℕ) (at : ℕ) (a : A) → length (writtenAt bs at a .bytes) ≡ length bs
-  -- written and then read at the same offset: the same value
-  pub returns : (bs : List ℕ) (at : ℕ) (a : A) → writtenAt bs at a .number ≡ 0 →
-      readAt (writtenAt bs at a .bytes) at ≡ good a
-  -- read and then written at the same offset: the same bytes
-  pub again : (bs : List ℕ) (at : ℕ) (a : A) → readAt bs at ≡ good a → writtenAt bs at a ≡ wrote (Answer.Ok 0) bs
-
 -- what writing gives, from its two tests
 module _ (has : Bool) (bs : List ℕ) (at : ℕ) (rec : List ℕ) where
   abbrev room : Bool
@@ -191,7 +159,8 @@ module _ (has : Bool) (bs : List ℕ) (at : ℕ) (rec : List ℕ) where
       ok-from h fits ∙ ap (λ (l : List ℕ). wrote (Answer.Ok 0) l) (put-same bs at rec e)
 
 -- the promises, from a record of at least one byte that leads back to its value, and that is led to from no other
-module _ {A R : Type 0} (size : ℕ) (has : A → Bool) (rec : A → List ℕ) (good : A → R) (none : R) (from : List ℕ → A)
+module _ {A R : Type 0} (size : ℕ) (has : A → Bool) (rec : A → List ℕ) (good : A → R) (none : R) (number value : R → ℕ)
+    (from : List ℕ → A) (good-is : (a : A) → (number (good a) ≡ 0) × (value (good a) ≡ 0)) (none-is : (number none ≡ 12) × (value none ≡ 0))
     (some : 0 < size) (long : (a : A) → length (rec a) ≡ size)
     (same : (a b : A) → good a ≡ good b → a ≡ b) (apart : (a : A) → none ≡ good a → ⊥)
     (back : (a : A) → has a ≡ true → from (rec a) ≡ a) (sound : (a : A) → has (from (rec a)) ≡ true) where
@@ -235,6 +204,37 @@ module _ {A R : Type 0} (size : ℕ) (has : A → Bool) (rec : A → List ℕ) (
       let part : List ℕ = take size (drop at bs) in
       (λ e a h f. apart a (sym e ∙ found-from part a h f), none-from part (sameBytes part (rec (from part))) refl)
 
+  -- the same by the numbers of the cases
+  stands-to : (bs : List ℕ) (at : ℕ) (t : Bool) → (let part = take size (drop at bs) in
+      sameBytes part (rec (from part)) ≡ t → number (cond t (good (from part)) none) ≡ 0 → Stands size has rec bs at)
+  stands-to bs at true s e =
+      let part : List ℕ = take size (drop at bs) in
+      let r = found-to part (from part) true s refl in
+      record { what = from part; fits = r .0; there = r .1 }
+  stands-to bs at false s e = absurd (omega (arith, none-is .0))
+
+  reads-ok : (bs : List ℕ) (at : ℕ) → (number (readAt bs at) ≡ 0) ↔ Stands size has rec bs at
+  reads-ok bs at =
+      let part : List ℕ = take size (drop at bs) in (
+        stands-to bs at (sameBytes part (rec (from part))) refl,
+        λ x. ap number (reads bs at (x .what) .1 (x .fits, x .there)) ∙ good-is (x .what) .0,
+      )
+
+  reads-none : (bs : List ℕ) (at : ℕ) → (number (readAt bs at) ≡ 12) ↔ (Stands size has rec bs at → ⊥)
+  reads-none bs at = (
+    λ e x. omega (arith, e, reads-ok bs at .1 x),
+    λ h. ap number (refuses bs at .1 (λ a f e. h (record { what = a; fits = f; there = e }))) ∙ none-is .0,
+  )
+
+  reads-zero : (bs : List ℕ) (at : ℕ) → value (readAt bs at) ≡ 0
+  reads-zero bs at =
+      let part : List ℕ = take size (drop at bs) in
+      either-way (sameBytes part (rec (from part))) part
+    where
+      either-way : (t : Bool) (part : List ℕ) → value (cond t (good (from part)) none) ≡ 0
+      either-way true part = good-is (from part) .1
+      either-way false part = none-is .1
+
   short : (bs : List ℕ) (at : ℕ) → length bs < at + size → readAt bs at ≡ none
   short bs at h =
       refuses bs at .1
@@ -269,13 +269,16 @@ module _ {A R : Type 0} (size : ℕ) (has : A → Bool) (rec : A → List ℕ) (
         let r = reads bs at a .0 e in
         stays (has a) bs at (rec a) (omega (arith, long a)) (r .0) (ap (λ (n : ℕ). take n (drop at bs)) (long a) ∙ r .1)
 
-  pub promises : Promises size has rec good none readAt writtenAt
+  pub promises : Promises size has rec good none number value readAt writtenAt
   promises =
       record {
         long = long;
         one = λ a b h g e. sym (back a h) ∙ ap from e ∙ back b g;
         reads = reads;
         refuses = refuses;
+        reads-ok = reads-ok;
+        reads-none = reads-none;
+        reads-zero = reads-zero;
         short = short;
         behind = behind;
         writes = writes;
@@ -289,17 +292,20 @@ module _ {A R : Type 0} (size : ℕ) (has : A → Bool) (rec : A → List ℕ) (
 -- THE THEOREMS
 
 -- for calls
-pub calls : Promises callBytes callFits callRecord CallRead.Good CallRead.Record callAt writtenCall
+pub calls : Promises callBytes callFits callRecord CallRead.Good CallRead.Record callReadNumber callReadValue callAt writtenCall
 unfolding callAt callIn writtenCall
 calls =
-    promises callBytes callFits callRecord CallRead.Good CallRead.Record callFrom (omega arith) call-length
+    promises callBytes callFits callRecord CallRead.Good CallRead.Record callReadNumber callReadValue callFrom
+    (λ a. (refl, refl)) (refl, refl) (omega arith) call-length
     (λ a b e. cc) (λ a e. let z : _≡_ {A = ℕ} 0 1 = cc in omega arith) call-back call-sound
 
 -- for answers with their place
-pub answers : Promises answerBytes replyFits answerRecord AnswerRead.Good AnswerRead.Record answerAt writtenAnswer
+pub answers : Promises answerBytes replyFits answerRecord AnswerRead.Good AnswerRead.Record answerReadNumber answerReadValue
+    answerAt writtenAnswer
 unfolding answerAt answerIn writtenAnswer
 answers =
-    promises answerBytes replyFits answerRecord AnswerRead.Good AnswerRead.Record replyFrom (omega arith) answer-length
+    promises answerBytes replyFits answerRecord AnswerRead.Good AnswerRead.Record answerReadNumber answerReadValue replyFrom
+    (λ a. (refl, refl)) (refl, refl) (omega arith) answer-length
     (λ a b e. cc) (λ a e. let z : _≡_ {A = ℕ} 0 1 = cc in omega arith) reply-back reply-sound
 
 -- two outcomes of writing that meet the contract are the same

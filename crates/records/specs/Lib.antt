@@ -1,2 +1,3 @@
 pub mod Answers
 pub mod Format
+pub mod Promises

@@ -41,13 +41,13 @@ pub struct Reply {
     pub answer: Answer,
 }
 
-// What stands at an offset: a call, or bytes that are no call.
+// What reading a call answers: OK with the call that stands at the offset, or RECORD.
 pub enum CallRead {
     Good(Call),
     Record,
 }
 
-// What stands at an offset: an answer with its place, or bytes that are no answer.
+// What reading an answer answers: OK with the answer that stands at the offset and its place, or RECORD.
 pub enum AnswerRead {
     Good(Reply),
     Record,
@@ -127,7 +127,7 @@ pub fn place_of(c: Call) -> u32
     }
 }
 
-// Takes the call record at an offset.
+// Takes the call record at an offset: OK with the call, or RECORD.
 pub fn read_call(bytes: &[u8], at: usize) -> CallRead
     ensures { λ r. ⌜ r ≡ callAt (now (bytes .entry)) at ⌝ }
 {
@@ -138,7 +138,7 @@ pub fn read_call(bytes: &[u8], at: usize) -> CallRead
     }
 }
 
-// Takes the answer record at an offset.
+// Takes the answer record at an offset: OK with the answer and its place, or RECORD.
 pub fn read_answer(bytes: &[u8], at: usize) -> AnswerRead
     ensures { λ r. ⌜ r ≡ answerAt (now (bytes .entry)) at ⌝ }
 {

@@ -1,10 +1,9 @@
 use borrow.Author.Needs.{needs}
 use borrow.Author.Tests.{le-leb, lt-leb}
-use native.Mathlib.Omega.{arith}
 use mathlib.Core.Path.{_≡_, refl, sym, ap, _∙_}
 use mathlib.Core.Bool.{Bool, true, false, cond}
-use Prim.Native.Nat.{ℕ, _+_, _-_, _≤_}
-use lib.ListN.{length, drop}
+use Prim.Native.Nat.{_-_, _≤_}
+use lib.ListN.{drop}
 use Rattle.cells.specs.Cells.{cellsOf}
 use Rattle.cells.specs.Tables.{topsFrom, topsOf, anyCell, upTo, raised}
 use Rattle.cells.proofs.Tables.{tops-next, tops-end, uncommitted-leaves}
