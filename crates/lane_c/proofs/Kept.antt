@@ -7,7 +7,6 @@ use mathlib.Core.Path.{_≡_, refl, ap, _∙_}
 use mathlib.Core.Bool.{Bool, true, cond}
 use mathlib.Core.List.{List, [], _∷_}
 use Prim.Native.Nat.{ℕ}
-use native.Mathlib.Omega.{arith}
 use lib.ListN.{length}
 use Rattle.records.specs.declared.Answer.{Answer}
 use Rattle.records.specs.declared.Call.{Call}
@@ -20,7 +19,7 @@ use Rattle.lanes.specs.Serve.{callsIn, runOf, tried, serveFirst, serveOf, Servi
 use Rattle.lane_c.specs.Words.{recordOf, wellFormed}
 use Rattle.lane_c.specs.Call.{callNamed, Crossed, refusedWith, outcomeWords, stepOnWords, onNamed, laneCall}
 use Rattle.lane_c.specs.Serve.{whyOf, Handed, servingWords, nothingServed, laneServe}
-use Rattle.lane_c.proofs.Words.{length-places, well-length, record-words, well-words}
+use Rattle.lane_c.proofs.Words.{length-places, record-words, well-words}
 
 -- what is said of a call that was answered, by its record and not by its words
 pub record IsStep (o : Outcome) (x : Crossed) : Type 0 where
@@ -51,7 +50,7 @@ run-lengths b cs (call ∷ calls) =
 module _ (ws cs : List ℕ) (w : wellFormed ws ≡ true) where
   places : length (recordOf ws .places) ≡ allPlaces
   unfolding recordOf
-  places = omega (arith, length-places ws, well-length ws w)
+  places = length-places ws
 
   sixteen : (call : Call) → length (step (recordOf ws) cs call .board .places) ≡ allPlaces
   sixteen call = keeps-lengths (recordOf ws) cs call .1 ∙ places
