@@ -164,9 +164,9 @@ fn place_of(block: &[u32]) -> Place
     ensures { λ r. ⌜ r ≡ placeOfWords (now (block .entry)) ⌝ }
 {
     Place {
-        state: state_of(block[0]),
         number: block[1],
         view: block[2],
+        state: state_of(block[0]),
     }
 }
 
