@@ -94,5 +94,5 @@ unfolding deskOf answersTo callsIn run recordsOf callAt callIn callFrom callReco
 desk-writes = refl
 
 pub desk-starts : DeskStarts
-unfolding deskOf
+unfolding deskOf wordsOf
 desk-starts input = refl
