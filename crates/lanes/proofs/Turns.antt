@@ -3,18 +3,18 @@
 --     have-is           the first bytes are the cut record and what was got
 --     turn-is           what `turn_on` calls comes to a turn on those bytes
 --     turn-ended, -got  what `turn` hands back at the end of the input, and after a read
---     turn-read         a turn after a read into lent bytes is the turn on what was read
---     turns             the promise: turns on lent bytes send what the desk writes
+--     sends-last, -next a turn after a read: what it sends, and what the rest of the input comes to
+--     turns             the promise: the turns of a fresh desk send what the desk writes
 -- Assumes nothing.
-use mathlib.Core.Path.{_≡_, refl, sym, ap, _∙_}
-use mathlib.Core.Bool.{Bool, true, false, cond}
-use mathlib.Core.List.{List, [], _∷_, _++_}
-use Prim.Native.Nat.{ℕ, _+_, _*_, _-_, _/_, _≤_, _<_, min, zero-le}
+use mathlib.Core.Path.{_≡_, refl, sym, ap, _∙_, subst⁻¹}
+use mathlib.Core.Bool.{Bool, true, false, cond, true≢false}
+use mathlib.Core.List.{List, [], _∷_, _++_, append-nil, flatten}
+use Prim.Native.Nat.{ℕ, _+_, _*_, _-_, _/_, _≤_, _<_, min}
 use native.Mathlib.Omega.{arith}
-use borrow.Author.Tests.{eq-eqb, ne-eqb, leb-true, leb-false}
+use borrow.Author.Tests.{eq-eqb, ne-eqb, eqb-true, leb-true, leb-false}
 use lib.Dec.{eqb, leb}
-use lib.ListN.{length, take, drop, length-append, length-take, length-drop, take-append-drop, drop-of-length-le}
-use lib.Seq.{take-all, take-add, take-at, drop-at, take-append-seam, length-take-le, length-slice}
+use lib.ListN.{length, take, drop, length-take, length-drop, take-append-drop, drop-of-length-le}
+use lib.Seq.{take-all, take-add, take-append-seam, length-take-le, length-slice}
 use Rattle.records.specs.Format.{callBytes, answerBytes, answerRecord, putAt}
 use Rattle.records.proofs.Bytes.{put-front}
 use Rattle.records.proofs.Fields.{answer-length}
@@ -24,6 +24,7 @@ use Rattle.lanes.specs.declared.Desk.{Desk}
 use Rattle.lanes.specs.Serve.{noCall, tried, Service, serving, intoBytes, serveFirst, serveOf, serveInto}
 use Rattle.lanes.specs.Desk.{
   deskWords,
+  deskOf,
   AtDesk,
   Input,
   Turning,
@@ -32,7 +33,6 @@ use Rattle.lanes.specs.Desk.{
   turnOn,
   atEnd,
   turnOf,
-  inPieces,
   freshDesk,
   deskIn,
   inputIn,
@@ -40,13 +40,17 @@ use Rattle.lanes.specs.Desk.{
   turnedIn,
   turnPut,
   turnInto,
+  Lent,
+  turnAfter,
+  Keeps,
+  brought,
   sentBy,
-  sentIn,
-  NoneEmpty,
+  leftBy,
+  Turns,
   TurnsPromise,
 }
 use Rattle.lanes.proofs.Calls.{callsIn-at-most}
-use Rattle.lanes.proofs.Pieces.{roomy, pieces}
+use Rattle.lanes.proofs.Pieces.{roomy, restOf, piece-turn, cut-short, ends}
 
 -- THE BYTES THAT ARE THERE
 
@@ -175,58 +179,87 @@ module _ (d : Desk) (ws bytes : List ℕ) (got : ℕ) (answers : List ℕ) (l : 
 -- TURN AFTER TURN
 
 -- what a turn put into lent bytes is read back from them
-cut-back : (bytes answers : List ℕ) (t : Turning) →
-    let o = turnPut bytes answers t in
-    deskIn (o .turned .desk) (o .words) (o .bytes) ≡ t .desk
-cut-back bytes answers t =
+desk-back : (bytes answers : List ℕ) (t : Turning) →
+    let x = leftBy (turnPut bytes answers t) in
+    deskIn (x .desk) (x .words) (x .bytes) ≡ t .desk
+desk-back bytes answers t =
     λ i. record { board = t .desk .board; words = t .desk .words; cut = put-first bytes (t .desk .cut) i }
 
-cut-there : (bytes rec : List ℕ) → length rec ≤ length (putAt bytes 0 rec)
-cut-there bytes rec = omega (arith, ap length (put-front bytes rec), length-append rec (drop (length rec) bytes))
+-- the desk, as a value
+abbrev deskAt : Lent → AtDesk
+deskAt x = deskIn (x .desk) (x .words) (x .bytes)
 
--- a read puts a piece behind the cut record, which stays
-module _ (d : Desk) (ws bytes answers piece : List ℕ) (there : d .left ≤ length bytes) (some : 0 < length piece) where
-  abbrev after : List ℕ
-  after = putAt bytes (d .left) piece
+-- one read, and the turn after it
+module _ (x : Lent) (bytes : List ℕ) (n : ℕ) (k : Keeps x bytes) where
+  abbrev turn : Turning
+  turn = turnOf (deskIn (x .desk) (x .words) bytes) (inputIn (x .desk .left) bytes n)
 
-  left-long : length (take (d .left) bytes) ≡ d .left
-  left-long = length-take-le (d .left) bytes there
+  as-read : (t : Bool) → eqb n 0 ≡ t
+      → turn ≡ turnOf (deskAt x) (cond t Input.ended (Input.got (brought x bytes n)))
+  as-read t e =
+      λ i. turnOf (record { board = x .desk .board; words = x .words; cut = k i })
+      (cond (e i) Input.ended (Input.got (brought x bytes n)))
 
-  cut-stays : take (d .left) after ≡ take (d .left) bytes
-  unfolding putAt
-  cut-stays = take-at (take (d .left) bytes) (piece ++ drop (d .left + length piece) bytes) (d .left) left-long
+  sent-is : sentBy (turnAfter x bytes n) ≡ turn .sends
+  sent-is = put-first (x .answers) (turn .sends)
 
-  piece-behind : take (length piece) (drop (d .left) after) ≡ piece
-  unfolding putAt
-  piece-behind =
-      ap (take (length piece)) (drop-at (take (d .left) bytes) (piece ++ drop (d .left + length piece) bytes) (d .left) left-long)
-      ∙ take-append-seam piece (drop (d .left + length piece) bytes)
+  desk-is : deskAt (leftBy (turnAfter x bytes n)) ≡ turn .desk
+  desk-is = desk-back bytes (x .answers) turn
 
-  read-is : inputIn (d .left) after (length piece) ≡ Input.got piece
-  read-is =
-      let none : eqb (length piece) 0 ≡ false = ne-eqb (length piece) 0 (λ e. omega arith) in
-      λ i. cond (none i) Input.ended (Input.got (piece-behind i))
+  -- the last turn: at the end of the input, or at bytes that are no call
+  sends-last : length (deskAt x .cut) < callBytes → turn .more ≡ false
+      → sentBy (turnAfter x bytes n) ≡ restOf (deskAt x) (brought x bytes n ++ [])
+  sends-last h m = sent-is ∙ go (eqb n 0) refl
+    where
+      go : (t : Bool) → eqb n 0 ≡ t → turn .sends ≡ restOf (deskAt x) (brought x bytes n ++ [])
+      go true e =
+          let none : brought x bytes n ≡ [] = ap (λ (k : ℕ). take k (drop (x .desk .left) bytes)) (eqb-true n 0 e) in
+          ap (λ (t : Turning). t .sends) (as-read true e)
+          ∙ ends (x .desk .board) (x .words) (deskAt x .cut) h
+          ∙ ap (λ (p : List ℕ). restOf (deskAt x) (p ++ [])) (sym none)
+      go false e =
+          let t : Turning = turnOf (deskAt x) (Input.got (brought x bytes n)) in
+          let stop : t .more ≡ false = sym (ap (λ (u : Turning). u .more) (as-read false e)) ∙ m in
+          ap (λ (u : Turning). u .sends) (as-read false e)
+          ∙ sym (append-nil (t .sends))
+          ∙ ap (λ (b : Bool). t .sends ++ cond b (restOf (t .desk) []) []) (sym stop)
+          ∙ sym (piece-turn (deskAt x) (brought x bytes n) [])
 
-  turn-read : turnInto d ws after (length piece) answers ≡ turnPut after answers (turnOf (deskIn d ws bytes) (Input.got piece))
-  turn-read =
-      λ i. turnPut after answers (turnOf (record { board = d .board; words = ws; cut = cut-stays i }) (read-is i))
+  -- a turn that says that there is more to do, and what the rest comes to
+  module _ (m : turn .more ≡ true) where
+    some : turn ≡ turnOf (deskAt x) (Input.got (brought x bytes n))
+    some = go (eqb n 0) refl
+      where
+        go : (t : Bool) → eqb n 0 ≡ t → turn ≡ turnOf (deskAt x) (Input.got (brought x bytes n))
+        go true e = absurd (true≢false (sym m ∙ ap (λ (u : Turning). u .more) (as-read true e)))
+        go false e = as-read false e
 
--- the turns on lent bytes send what the turns on values do
-sent-is : (d : Desk) (ws bytes answers : List ℕ) (ps : List (List ℕ)) → d .left ≤ length bytes → NoneEmpty ps
-    → sentIn d ws bytes answers ps ≡ inPieces (deskIn d ws bytes) ps
-unfolding sentIn inPieces
-sent-is d ws bytes answers [] h e = put-first answers (atEnd (length (take (d .left) bytes)))
-sent-is d ws bytes answers (p ∷ ps) h e =
-    let read : List ℕ = putAt bytes (d .left) p in
-    let t : Turning = turnOf (deskIn d ws bytes) (Input.got p) in
-    let o : TurnedIn = turnPut read answers t in
-    let later : sentIn (o .turned .desk) (o .words) (o .bytes) (o .answers) ps ≡ inPieces (t .desk) ps =
-    sent-is (o .turned .desk) (o .words) (o .bytes) (o .answers) ps (cut-there read (t .desk .cut)) (e .1)
-    ∙ ap (λ (x : AtDesk). inPieces x ps) (cut-back read answers t) in
-    ap (λ (u : TurnedIn). sentBy u ++ cond (u .turned .more) (sentIn (u .turned .desk) (u .words) (u .bytes) (u .answers) ps) [])
-    (turn-read d ws bytes answers p h (e .0))
-    ∙ (λ i. put-first answers (t .sends) i ++ cond (t .more) (later i) [])
+    next-short : length (deskAt (leftBy (turnAfter x bytes n)) .cut) < callBytes
+    next-short =
+        subst⁻¹ (λ (d : AtDesk). length (d .cut) < callBytes) (desk-is ∙ ap (λ (u : Turning). u .desk) some)
+        (cut-short (deskAt x) (brought x bytes n) (sym (ap (λ (u : Turning). u .more) some) ∙ m))
 
--- the turns of a fresh desk send what the desk writes for the whole input
+    sends-next : (more : List ℕ)
+        → sentBy (turnAfter x bytes n) ++ restOf (deskAt (leftBy (turnAfter x bytes n))) more
+        ≡ restOf (deskAt x) (brought x bytes n ++ more)
+    sends-next more =
+        let t : Turning = turnOf (deskAt x) (Input.got (brought x bytes n)) in
+        (λ i. sent-is i ++ restOf (desk-is i) more)
+        ∙ ap (λ (u : Turning). u .sends ++ restOf (u .desk) more) some
+        ∙ ap (λ (b : Bool). t .sends ++ cond b (restOf (t .desk) more) []) (sym m ∙ ap (λ (u : Turning). u .more) some)
+        ∙ sym (piece-turn (deskAt x) (brought x bytes n) more)
+
+sends : (x : Lent) {pieces : List (List ℕ)} {out : List ℕ} {t : TurnedIn} → Turns x pieces out t → t .turned .more ≡ false
+    → length (deskAt x .cut) < callBytes → out ≡ restOf (deskAt x) (flatten pieces)
+unfolding flatten
+sends x (Turns.last bytes n k) e h = sends-last x bytes n k h e
+sends x (Turns.next {pieces = pieces} bytes n k m r) e h =
+    ap (λ (l : List ℕ). sentBy (turnAfter x bytes n) ++ l)
+    (sends (leftBy (turnAfter x bytes n)) r e (next-short x bytes n k m))
+    ∙ sends-next x bytes n k m (flatten pieces)
+
+-- the turns of a fresh desk send what the desk writes
 pub turns : TurnsPromise
-turns bytes answers ps e = sent-is freshDesk deskWords bytes answers ps zero-le e ∙ pieces ps
+unfolding deskOf
+turns bytes answers pieces out t r e =
+    sends (record { desk = freshDesk; words = deskWords; bytes = bytes; answers = answers }) r e (omega arith)

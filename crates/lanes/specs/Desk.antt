@@ -1,7 +1,7 @@
 -- The desk program: from its whole input to its whole output, and the same turn by turn.
 -- Assumes nothing.
 use mathlib.Core.Path.{_≡_}
-use Prim.Native.Nat.{ℕ, _*_, _<_}
+use Prim.Native.Nat.{ℕ, _*_}
 use mathlib.Core.Bool.{Bool, true, false, cond}
 use mathlib.Core.List.{List, [], _∷_, _++_, flatten}
 use lib.Dec.{eqb}
@@ -138,17 +138,43 @@ turnPut bytes answers t =
 abbrev pub turnInto : Desk → List ℕ → List ℕ → ℕ → List ℕ → TurnedIn
 turnInto d ws bytes n answers = turnPut bytes answers (turnOf (deskIn d ws bytes) (inputIn (d .left) bytes n))
 
+-- TURN AFTER TURN ON THE SAME LENT BYTES
+
+-- the desk between two turns, with what it is lent
+pub record Lent : Type 0 where
+  pub desk : Desk
+  pub words : List ℕ
+  pub bytes : List ℕ
+  pub answers : List ℕ
+
+-- a turn after a read that left such bytes and brought so many of them
+abbrev pub turnAfter : Lent → List ℕ → ℕ → TurnedIn
+turnAfter x bytes n = turnInto (x .desk) (x .words) bytes n (x .answers)
+
+-- a read keeps the cut record
+abbrev pub Keeps : Lent → List ℕ → Type 0
+Keeps x bytes = take (x .desk .left) bytes ≡ take (x .desk .left) (x .bytes)
+
+-- the bytes that it brought
+abbrev pub brought : Lent → List ℕ → ℕ → List ℕ
+brought x bytes n = take n (drop (x .desk .left) bytes)
+
 -- the bytes that a turn sends
 abbrev pub sentBy : TurnedIn → List ℕ
 sentBy t = take (t .turned .written) (t .answers)
 
--- what is sent with the same lent words and bytes turn after turn: a read puts each piece behind the cut record, and at the end of the
--- input it puts none
-unfoldable pub sentIn : Desk → List ℕ → List ℕ → List ℕ → List (List ℕ) → List ℕ
-sentIn d ws bytes answers [] = sentBy (turnInto d ws bytes 0 answers)
-sentIn d ws bytes answers (piece ∷ pieces) =
-    let t : TurnedIn = turnInto d ws (putAt bytes (d .left) piece) (length piece) answers in
-    sentBy t ++ cond (t .turned .more) (sentIn (t .turned .desk) (t .words) (t .bytes) (t .answers) pieces) []
+-- what a turn leaves to the next
+abbrev pub leftBy : TurnedIn → Lent
+leftBy t = record { desk = t .turned .desk; words = t .words; bytes = t .bytes; answers = t .answers }
+
+-- turns one after another, from one that says that there is more to do to the next: what the reads brought, what the turns send, and
+-- what the last of them hands back. What stands in the lent bytes behind those that a read brought may be anything.
+pub data Turns : Lent → List (List ℕ) → List ℕ → TurnedIn → Type 0 where
+  last : {x : Lent} (bytes : List ℕ) (n : ℕ) → Keeps x bytes
+      → Turns x (brought x bytes n ∷ []) (sentBy (turnAfter x bytes n)) (turnAfter x bytes n)
+  next : {x : Lent} {pieces : List (List ℕ)} {out : List ℕ} {t : TurnedIn} (bytes : List ℕ) (n : ℕ) → Keeps x bytes
+      → turnAfter x bytes n .turned .more ≡ true → Turns (leftBy (turnAfter x bytes n)) pieces out t
+      → Turns x (brought x bytes n ∷ pieces) (sentBy (turnAfter x bytes n) ++ out) t
 
 -- PROMISES
 
@@ -156,12 +182,9 @@ sentIn d ws bytes answers (piece ∷ pieces) =
 abbrev pub PiecesPromise : Type 0
 PiecesPromise = (pieces : List (List ℕ)) → inPieces atFirst pieces ≡ deskOf (flatten pieces)
 
--- a read that comes to nothing is the end of the input
-abbrev pub NoneEmpty : List (List ℕ) → Type 0
-NoneEmpty [] = Unit
-NoneEmpty (piece ∷ pieces) = (0 < length piece) × NoneEmpty pieces
-
--- the same on lent bytes, whatever they hold at first: the turns of a fresh desk send what the desk writes for the whole input
+-- the turns of a fresh desk up to one that says that there is no more to do send what the desk writes for all that the reads brought,
+-- whatever the lent bytes hold at first
 abbrev pub TurnsPromise : Type 0
-TurnsPromise = (bytes answers : List ℕ) (pieces : List (List ℕ)) → NoneEmpty pieces
-    → sentIn freshDesk deskWords bytes answers pieces ≡ deskOf (flatten pieces)
+TurnsPromise = (bytes answers : List ℕ) (pieces : List (List ℕ)) (out : List ℕ) (t : TurnedIn)
+    → Turns (record { desk = freshDesk; words = deskWords; bytes = bytes; answers = answers }) pieces out t
+    → t .turned .more ≡ false → out ≡ deskOf (flatten pieces)
