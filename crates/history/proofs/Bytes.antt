@@ -243,7 +243,7 @@ module _ (n : ℕ) (h : 0 < n) (m : n ≤ mostCells) (input ws : List ℕ) (fres
 pub desk-tells : DeskPromise
 unfolding deskOf
 desk-tells input =
-    from-desk mostCells (omega arith) (omega arith) input deskWords (every-word mostCells (4 * mostCells) refl)
+    from-desk mostCells (omega arith) (omega arith) input deskWords refl
 
 -- SERVING
 
