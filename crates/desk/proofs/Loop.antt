@@ -2,8 +2,8 @@
 -- Assumes nothing.
 use mathlib.Core.Path.{_≡_, refl, sym, ap, _∙_, subst}
 use mathlib.Core.Bool.{Bool, true, false, not, _&&_, _||_, false≢true, true≢false}
-use mathlib.Core.List.{List, [], _∷_, _++_}
-use Prim.Native.Nat.{ℕ, _≤_, _<_}
+use mathlib.Core.List.{List, [], _++_}
+use Prim.Native.Nat.{ℕ, zero, suc, _≤_, _<_}
 use native.Mathlib.Omega.{arith}
 use borrow.Author.Tests.{eqb-false}
 use lib.Dec.{eqb}
@@ -41,18 +41,23 @@ module _ (r : Bool) (turns : ℕ) (h : (not r || eqb turns 0) ≡ false) where
 
 -- turns that lead from there to what the last of them hands back
 abbrev pub Leads : Lent → TurnedIn → Type 0
-Leads x t = (pieces : List (List ℕ)) × ((out : List ℕ) × Turns x pieces out t)
+Leads x t = (input : List ℕ) × ((out : List ℕ) × Turns x input out t)
+
+-- a turn with nothing behind it
+one-turn : (x : Lent) (bytes : List ℕ) (n : ℕ) → Keeps x bytes → Leads x (turnAfter x bytes n)
+one-turn x bytes zero k = ([], (sentBy (turnAfter x bytes 0), Turns.ended bytes k))
+one-turn x bytes (suc n) k =
+    (brought x bytes (suc n) ++ [], (sentBy (turnAfter x bytes (suc n)), Turns.last bytes (suc n) [] k (omega arith)))
 
 module _ (x : Lent) (bytes : List ℕ) (n : ℕ) (k : Keeps x bytes) (o : TurnedIn) (e : o ≡ turnAfter x bytes n) where
   pub leads-last : Leads x o
-  leads-last =
-      subst (Leads x) (sym e) (brought x bytes n ∷ [], (sentBy (turnAfter x bytes n), Turns.last bytes n k))
+  leads-last = subst (Leads x) (sym e) (one-turn x bytes n k)
 
   pub leads-next : o .turned .more ≡ true → (t : TurnedIn) → Leads (leftBy o) t → Leads x t
   leads-next m t l =
       let later : Leads (leftBy (turnAfter x bytes n)) t = subst (λ (u : TurnedIn). Leads (leftBy u) t) e l in
       let more : turnAfter x bytes n .turned .more ≡ true = sym (ap (λ (u : TurnedIn). u .turned .more) e) ∙ m in
-      (brought x bytes n ∷ later .0, (sentBy (turnAfter x bytes n) ++ later .1 .0, Turns.next bytes n k more (later .1 .1)))
+      (brought x bytes n ++ later .0, (sentBy (turnAfter x bytes n) ++ later .1 .0, Turns.next bytes n k more (later .1 .1)))
 
 -- what the loop comes to
 pub ran : (ws bytes answers ws′ bytes′ answers′ : List ℕ) (r : Turned) → ws ≡ deskWords
@@ -63,7 +68,7 @@ ran ws bytes answers ws′ bytes′ answers′ r e l =
     let f : Leads (record { desk = freshDesk; words = deskWords; bytes = bytes; answers = answers }) last =
     subst (λ (l : List ℕ). Leads (record { desk = freshDesk; words = l; bytes = bytes; answers = answers }) last) e l in
     record {
-      pieces = f .0;
+      input = f .0;
       out = f .1 .0;
       turned = r;
       turns = f .1 .1;

@@ -19,7 +19,7 @@ use Rattle.records.specs.Format.{callBytes, answerBytes, answerRecord}
 use Rattle.steps.specs.declared.Board.{Board}
 use Rattle.lanes.specs.declared.Stop.{Stop}
 use Rattle.lanes.specs.Serve.{noCall, callsIn, Run, runOf, recordsOf, wholeCalls, tried, refused, Service, serveFirst, serveOf}
-use Rattle.lanes.specs.Desk.{answersTo, deskOf, AtDesk, atFirst, Input, Turning, serveAll, goesOn, turnOn, atEnd, turnOf, inPieces}
+use Rattle.lanes.specs.Desk.{answersTo, deskOf, AtDesk, atFirst, Input, Turning, serveAll, moreAfter, turnOn, atEnd, turnOf, inPieces}
 use Rattle.lanes.specs.Desk.{PiecesPromise}
 use Rattle.lanes.proofs.Calls.{callsIn-front, callsIn-at-most, callsIn-all, callsIn-stop, run-replies, records-append}
 
@@ -89,7 +89,7 @@ cutOff calls input = cond (eqb (callBytes * length calls) (length input)) [] (an
 -- what the input comes to once a piece of it is served
 abbrev afterPiece : List ℕ → List ℕ → Service → List ℕ
 afterPiece bytes more s =
-    s .answers ++ cond (goesOn (s .stop)) (answersTo (s .board) (s .words) (drop (s .taken) bytes ++ more)) []
+    s .answers ++ cond (moreAfter (s .stop)) (answersTo (s .board) (s .words) (drop (s .taken) bytes ++ more)) []
 
 module _ (b : Board) (ws bytes more : List ℕ) where
   abbrev calls : List Call
@@ -186,7 +186,7 @@ module _ (b : Board) (ws bytes more : List ℕ) where
 
 -- what is left of a piece is less than a record
 abbrev LeftShort : List ℕ → Service → Type 0
-LeftShort bytes s = goesOn (s .stop) ≡ true → length (drop (s .taken) bytes) < callBytes
+LeftShort bytes s = moreAfter (s .stop) ≡ true → length (drop (s .taken) bytes) < callBytes
 
 left-short : (b : Board) (ws bytes : List ℕ) → LeftShort bytes (serveAll b ws bytes)
 left-short b ws bytes =

@@ -3,15 +3,15 @@
 --     have-is           the first bytes are the cut record and what was got
 --     turn-is           what `turn_on` calls comes to a turn on those bytes
 --     turn-ended, -got  what `turn` hands back at the end of the input, and after a read
---     sends-last, -next a turn after a read: what it sends, and what the rest of the input comes to
+--     sends-..          a turn after a read: what it sends, and what the rest of the input comes to
 --     turns             the promise: the turns of a fresh desk send what the desk writes
 -- Assumes nothing.
 use mathlib.Core.Path.{_≡_, refl, sym, ap, _∙_, subst⁻¹}
 use mathlib.Core.Bool.{Bool, true, false, cond, true≢false}
-use mathlib.Core.List.{List, [], _∷_, _++_, append-nil, flatten}
+use mathlib.Core.List.{List, [], _++_, append-nil}
 use Prim.Native.Nat.{ℕ, _+_, _*_, _-_, _/_, _≤_, _<_, min}
 use native.Mathlib.Omega.{arith}
-use borrow.Author.Tests.{eq-eqb, ne-eqb, eqb-true, leb-true, leb-false}
+use borrow.Author.Tests.{eq-eqb, ne-eqb, leb-true, leb-false}
 use lib.Dec.{eqb, leb}
 use lib.ListN.{length, take, drop, length-take, length-drop, take-append-drop, drop-of-length-le}
 use lib.Seq.{take-all, take-add, take-append-seam, length-take-le, length-slice}
@@ -29,7 +29,7 @@ use Rattle.lanes.specs.Desk.{
   Input,
   Turning,
   serveAll,
-  goesOn,
+  moreAfter,
   turnOn,
   atEnd,
   turnOf,
@@ -123,7 +123,7 @@ module _ (b : Board) (ws bytes : List ℕ) (have : ℕ) (answers : List ℕ) (th
 
   pub turn-is : (s : Served) (ws′ bytes′ answers′ : List ℕ) (left : ℕ) (more : Bool)
       → serving s ws′ answers′ ≡ serveInto b ws part answers
-      → left ≡ have - s .taken → bytes′ ≡ putAt bytes 0 (drop (s .taken) part) → more ≡ goesOn (s .stop)
+      → left ≡ have - s .taken → bytes′ ≡ putAt bytes 0 (drop (s .taken) part) → more ≡ moreAfter (s .stop)
       → turnedIn (record { desk = record { board = s .board; left = left }; written = s .written; more = more }) ws′ bytes′ answers′
       ≡ turnPut bytes answers (turnOn b ws part)
   unfolding turnOn
@@ -133,7 +133,7 @@ module _ (b : Board) (ws bytes : List ℕ) (have : ℕ) (answers : List ℕ) (th
       n ∙ sym (length-slice (s .taken) have bytes there) ∙ (λ i. length (drop (o i .taken) part)) in
       let moved : bytes′ ≡ putAt bytes 0 (drop (serveAll b ws part .taken) part) =
       m ∙ (λ i. putAt bytes 0 (drop (o i .taken) part)) in
-      let goes : more ≡ goesOn (serveAll b ws part .stop) = g ∙ (λ i. goesOn (o i .stop)) in
+      let goes : more ≡ moreAfter (serveAll b ws part .stop) = g ∙ (λ i. moreAfter (o i .stop)) in
       λ i. record {
         turned = record {
           desk = record { board = o i .board; left = lefts i };
@@ -206,60 +206,66 @@ module _ (x : Lent) (bytes : List ℕ) (n : ℕ) (k : Keeps x bytes) where
   desk-is : deskAt (leftBy (turnAfter x bytes n)) ≡ turn .desk
   desk-is = desk-back bytes (x .answers) turn
 
-  -- the last turn: at the end of the input, or at bytes that are no call
-  sends-last : length (deskAt x .cut) < callBytes → turn .more ≡ false
-      → sentBy (turnAfter x bytes n) ≡ restOf (deskAt x) (brought x bytes n ++ [])
-  sends-last h m = sent-is ∙ go (eqb n 0) refl
+  -- a turn after a read that brought something
+  module _ (some : eqb n 0 ≡ false) where
+    abbrev value : Turning
+    value = turnOf (deskAt x) (Input.got (brought x bytes n))
+
+    more-is : turn .more ≡ value .more
+    more-is = ap (λ (u : Turning). u .more) (as-read false some)
+
+    -- it is the last: it met bytes that are no call
+    sends-last : turn .more ≡ false → (unread : List ℕ) → sentBy (turnAfter x bytes n) ≡ restOf (deskAt x) (brought x bytes n ++ unread)
+    sends-last m unread =
+        sent-is
+        ∙ ap (λ (u : Turning). u .sends) (as-read false some)
+        ∙ sym (append-nil (value .sends))
+        ∙ ap (λ (b : Bool). value .sends ++ cond b (restOf (value .desk) unread) []) (sym m ∙ more-is)
+        ∙ sym (piece-turn (deskAt x) (brought x bytes n) unread)
+
+    -- there is more to do: the next begins with less than a record, and with what the rest comes to
+    next-short : turn .more ≡ true → length (deskAt (leftBy (turnAfter x bytes n)) .cut) < callBytes
+    next-short m =
+        subst⁻¹ (λ (d : AtDesk). length (d .cut) < callBytes) (desk-is ∙ ap (λ (u : Turning). u .desk) (as-read false some))
+        (cut-short (deskAt x) (brought x bytes n) (sym more-is ∙ m))
+
+    sends-next : turn .more ≡ true → (input : List ℕ)
+        → sentBy (turnAfter x bytes n) ++ restOf (deskAt (leftBy (turnAfter x bytes n))) input
+        ≡ restOf (deskAt x) (brought x bytes n ++ input)
+    sends-next m input =
+        (λ i. sent-is i ++ restOf (desk-is i) input)
+        ∙ ap (λ (u : Turning). u .sends ++ restOf (u .desk) input) (as-read false some)
+        ∙ ap (λ (b : Bool). value .sends ++ cond b (restOf (value .desk) input) []) (sym m ∙ more-is)
+        ∙ sym (piece-turn (deskAt x) (brought x bytes n) input)
+
+  -- after the end of the input there is no more to do
+  more-some : turn .more ≡ true → eqb n 0 ≡ false
+  more-some m = go (eqb n 0) refl
     where
-      go : (t : Bool) → eqb n 0 ≡ t → turn .sends ≡ restOf (deskAt x) (brought x bytes n ++ [])
-      go true e =
-          let none : brought x bytes n ≡ [] = ap (λ (k : ℕ). take k (drop (x .desk .left) bytes)) (eqb-true n 0 e) in
-          ap (λ (t : Turning). t .sends) (as-read true e)
-          ∙ ends (x .desk .board) (x .words) (deskAt x .cut) h
-          ∙ ap (λ (p : List ℕ). restOf (deskAt x) (p ++ [])) (sym none)
-      go false e =
-          let t : Turning = turnOf (deskAt x) (Input.got (brought x bytes n)) in
-          let stop : t .more ≡ false = sym (ap (λ (u : Turning). u .more) (as-read false e)) ∙ m in
-          ap (λ (u : Turning). u .sends) (as-read false e)
-          ∙ sym (append-nil (t .sends))
-          ∙ ap (λ (b : Bool). t .sends ++ cond b (restOf (t .desk) []) []) (sym stop)
-          ∙ sym (piece-turn (deskAt x) (brought x bytes n) [])
+      go : (t : Bool) → eqb n 0 ≡ t → t ≡ false
+      go true e = absurd (true≢false (sym m ∙ ap (λ (u : Turning). u .more) (as-read true e)))
+      go false e = refl
 
-  -- a turn that says that there is more to do, and what the rest comes to
-  module _ (m : turn .more ≡ true) where
-    some : turn ≡ turnOf (deskAt x) (Input.got (brought x bytes n))
-    some = go (eqb n 0) refl
-      where
-        go : (t : Bool) → eqb n 0 ≡ t → turn ≡ turnOf (deskAt x) (Input.got (brought x bytes n))
-        go true e = absurd (true≢false (sym m ∙ ap (λ (u : Turning). u .more) (as-read true e)))
-        go false e = as-read false e
+-- at the end of the input a cut record is RECORD
+sends-end : (x : Lent) (bytes : List ℕ) → Keeps x bytes → length (deskAt x .cut) < callBytes
+    → sentBy (turnAfter x bytes 0) ≡ restOf (deskAt x) []
+sends-end x bytes k h =
+    sent-is x bytes 0 k
+    ∙ ap (λ (t : Turning). t .sends) (as-read x bytes 0 k true refl)
+    ∙ ends (x .desk .board) (x .words) (deskAt x .cut) h
 
-    next-short : length (deskAt (leftBy (turnAfter x bytes n)) .cut) < callBytes
-    next-short =
-        subst⁻¹ (λ (d : AtDesk). length (d .cut) < callBytes) (desk-is ∙ ap (λ (u : Turning). u .desk) some)
-        (cut-short (deskAt x) (brought x bytes n) (sym (ap (λ (u : Turning). u .more) some) ∙ m))
-
-    sends-next : (more : List ℕ)
-        → sentBy (turnAfter x bytes n) ++ restOf (deskAt (leftBy (turnAfter x bytes n))) more
-        ≡ restOf (deskAt x) (brought x bytes n ++ more)
-    sends-next more =
-        let t : Turning = turnOf (deskAt x) (Input.got (brought x bytes n)) in
-        (λ i. sent-is i ++ restOf (desk-is i) more)
-        ∙ ap (λ (u : Turning). u .sends ++ restOf (u .desk) more) some
-        ∙ ap (λ (b : Bool). t .sends ++ cond b (restOf (t .desk) more) []) (sym m ∙ ap (λ (u : Turning). u .more) some)
-        ∙ sym (piece-turn (deskAt x) (brought x bytes n) more)
-
-sends : (x : Lent) {pieces : List (List ℕ)} {out : List ℕ} {t : TurnedIn} → Turns x pieces out t → t .turned .more ≡ false
-    → length (deskAt x .cut) < callBytes → out ≡ restOf (deskAt x) (flatten pieces)
-unfolding flatten
-sends x (Turns.last bytes n k) e h = sends-last x bytes n k h e
-sends x (Turns.next {pieces = pieces} bytes n k m r) e h =
+sends : (x : Lent) {input out : List ℕ} {t : TurnedIn} → Turns x input out t → t .turned .more ≡ false
+    → length (deskAt x .cut) < callBytes → out ≡ restOf (deskAt x) input
+sends x (Turns.ended bytes k) e h = sends-end x bytes k h
+sends x (Turns.last bytes n unread k some) e h = sends-last x bytes n k (ne-eqb n 0 (λ z. omega arith)) e unread
+sends x (Turns.next {input = input} bytes n k m r) e h =
+    let some : eqb n 0 ≡ false = more-some x bytes n k m in
     ap (λ (l : List ℕ). sentBy (turnAfter x bytes n) ++ l)
-    (sends (leftBy (turnAfter x bytes n)) r e (next-short x bytes n k m))
-    ∙ sends-next x bytes n k m (flatten pieces)
+    (sends (leftBy (turnAfter x bytes n)) r e (next-short x bytes n k some m))
+    ∙ sends-next x bytes n k some m input
 
 -- the turns of a fresh desk send what the desk writes
 pub turns : TurnsPromise
 unfolding deskOf
-turns bytes answers pieces out t r e =
+turns bytes answers input out t r e =
     sends (record { desk = freshDesk; words = deskWords; bytes = bytes; answers = answers }) r e (omega arith)

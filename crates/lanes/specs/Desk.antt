@@ -1,7 +1,7 @@
 -- The desk program: from its whole input to its whole output, and the same turn by turn.
 -- Assumes nothing.
 use mathlib.Core.Path.{_≡_}
-use Prim.Native.Nat.{ℕ, _*_}
+use Prim.Native.Nat.{ℕ, _*_, _<_}
 use mathlib.Core.Bool.{Bool, true, false, cond}
 use mathlib.Core.List.{List, [], _∷_, _++_, flatten}
 use lib.Dec.{eqb}
@@ -62,11 +62,11 @@ pub record Turning : Type 0 where
 abbrev pub serveAll : Board → List ℕ → List ℕ → Service
 serveAll b ws bytes = serveOf b ws bytes (answerBytes * wholeCalls bytes)
 
--- it goes on from the end of the whole records, and not from bytes that are no call
-abbrev pub goesOn : Stop → Bool
-goesOn Stop.End = true
-goesOn Stop.Record = false
-goesOn Stop.Room = false
+-- there is more to do after the end of the whole records, and not after bytes that are no call
+abbrev pub moreAfter : Stop → Bool
+moreAfter Stop.End = true
+moreAfter Stop.Record = false
+moreAfter Stop.Room = false
 
 -- all whole records in the bytes are answered; what is left of the bytes is a cut record
 unfoldable pub turnOn : Board → List ℕ → List ℕ → Turning
@@ -75,7 +75,7 @@ turnOn b ws bytes =
     record {
       desk = record { board = s .board; words = s .words; cut = drop (s .taken) bytes };
       sends = s .answers;
-      more = goesOn (s .stop);
+      more = moreAfter (s .stop);
     }
 
 -- at the end of the input with so many bytes left: RECORD for a cut record
@@ -167,14 +167,16 @@ sentBy t = take (t .turned .written) (t .answers)
 abbrev pub leftBy : TurnedIn → Lent
 leftBy t = record { desk = t .turned .desk; words = t .words; bytes = t .bytes; answers = t .answers }
 
--- turns one after another, from one that says that there is more to do to the next: what the reads brought, what the turns send, and
--- what the last of them hands back. What stands in the lent bytes behind those that a read brought may be anything.
-pub data Turns : Lent → List (List ℕ) → List ℕ → TurnedIn → Type 0 where
-  last : {x : Lent} (bytes : List ℕ) (n : ℕ) → Keeps x bytes
-      → Turns x (brought x bytes n ∷ []) (sentBy (turnAfter x bytes n)) (turnAfter x bytes n)
-  next : {x : Lent} {pieces : List (List ℕ)} {out : List ℕ} {t : TurnedIn} (bytes : List ℕ) (n : ℕ) → Keeps x bytes
-      → turnAfter x bytes n .turned .more ≡ true → Turns (leftBy (turnAfter x bytes n)) pieces out t
-      → Turns x (brought x bytes n ∷ pieces) (sentBy (turnAfter x bytes n) ++ out) t
+-- turns one after another, each after a read, up to the end of the input or to any turn before it: the input from there on, what the
+-- turns send, and what the last of them hands back. None comes after one that says that there is no more to do. What stands in the lent
+-- bytes behind those that a read brought may be anything.
+pub data Turns : Lent → List ℕ → List ℕ → TurnedIn → Type 0 where
+  ended : {x : Lent} (bytes : List ℕ) → Keeps x bytes → Turns x [] (sentBy (turnAfter x bytes 0)) (turnAfter x bytes 0)
+  last : {x : Lent} (bytes : List ℕ) (n : ℕ) (unread : List ℕ) → Keeps x bytes → 0 < n
+      → Turns x (brought x bytes n ++ unread) (sentBy (turnAfter x bytes n)) (turnAfter x bytes n)
+  next : {x : Lent} {input out : List ℕ} {t : TurnedIn} (bytes : List ℕ) (n : ℕ) → Keeps x bytes
+      → turnAfter x bytes n .turned .more ≡ true → Turns (leftBy (turnAfter x bytes n)) input out t
+      → Turns x (brought x bytes n ++ input) (sentBy (turnAfter x bytes n) ++ out) t
 
 -- PROMISES
 
@@ -182,9 +184,9 @@ pub data Turns : Lent → List (List ℕ) → List ℕ → TurnedIn → Type 0 w
 abbrev pub PiecesPromise : Type 0
 PiecesPromise = (pieces : List (List ℕ)) → inPieces atFirst pieces ≡ deskOf (flatten pieces)
 
--- the turns of a fresh desk up to one that says that there is no more to do send what the desk writes for all that the reads brought,
--- whatever the lent bytes hold at first
+-- the turns of a fresh desk up to one that says that there is no more to do send what the desk writes for the whole input, whatever the
+-- lent bytes hold at first
 abbrev pub TurnsPromise : Type 0
-TurnsPromise = (bytes answers : List ℕ) (pieces : List (List ℕ)) (out : List ℕ) (t : TurnedIn)
-    → Turns (record { desk = freshDesk; words = deskWords; bytes = bytes; answers = answers }) pieces out t
-    → t .turned .more ≡ false → out ≡ deskOf (flatten pieces)
+TurnsPromise = (bytes answers input out : List ℕ) (t : TurnedIn)
+    → Turns (record { desk = freshDesk; words = deskWords; bytes = bytes; answers = answers }) input out t
+    → t .turned .more ≡ false → out ≡ deskOf input
