@@ -1,15 +1,15 @@
--- One turn of the desk: the bytes that are there, serving them, and what is left of them.
---     take-least, drop- as many bytes as there are
+-- One turn of the desk on lent bytes: the bytes that are there, serving them, and what is left of them.
 --     have-is           the first bytes are the cut record and what was got
+--     put-..            bytes at the front of the lent ones
+--     end-..            what `finish` writes
 --     turn-is           what `turn_on` calls comes to a turn on those bytes
 --     turn-ended, -got  what `turn` hands back at the end of the input, and after a read
---     sends-..          a turn after a read: what it sends, and what the rest of the input comes to
---     turns             the promise: the turns of a fresh desk send what the desk writes
 -- Assumes nothing.
-use mathlib.Core.Path.{_≡_, refl, sym, ap, _∙_, subst⁻¹}
-use mathlib.Core.Bool.{Bool, true, false, cond, true≢false}
-use mathlib.Core.List.{List, [], _++_, append-nil}
-use Prim.Native.Nat.{ℕ, _+_, _*_, _-_, _/_, _≤_, _<_, min}
+use mathlib.Core.Path.{_≡_, refl, sym, ap, _∙_}
+use mathlib.Core.Logic.{_⊎_, inl, inr, ⊎-elim}
+use mathlib.Core.Bool.{Bool, true, false, cond}
+use mathlib.Core.List.{List, [], _++_}
+use Prim.Native.Nat.{ℕ, _+_, _*_, _-_, _/_, _≤_, min}
 use native.Mathlib.Omega.{arith}
 use borrow.Author.Tests.{eq-eqb, ne-eqb, leb-true, leb-false}
 use lib.Dec.{eqb, leb}
@@ -21,57 +21,31 @@ use Rattle.records.proofs.Fields.{answer-length}
 use Rattle.steps.specs.declared.Board.{Board}
 use Rattle.lanes.specs.declared.Served.{Served}
 use Rattle.lanes.specs.declared.Desk.{Desk}
-use Rattle.lanes.specs.Serve.{noCall, tried, Service, serving, intoBytes, serveFirst, serveOf, serveInto}
-use Rattle.lanes.specs.Desk.{
-  deskWords,
-  deskOf,
-  AtDesk,
-  Input,
-  Turning,
-  serveAll,
-  moreAfter,
-  turnOn,
-  atEnd,
-  turnOf,
-  freshDesk,
-  deskIn,
-  inputIn,
-  TurnedIn,
-  turnedIn,
-  turnPut,
-  turnInto,
-  Lent,
-  turnAfter,
-  Keeps,
-  brought,
-  sentBy,
-  leftBy,
-  Turns,
-  TurnsPromise,
-}
+use Rattle.lanes.specs.Serve.{noCall, tried, serving, intoBytes, serveFirst, serveOf, serveInto}
+use Rattle.lanes.specs.Desk.{Input, serveAll, moreAfter, turnOn, atEnd, turnOf, deskIn, TurnedIn, turnedIn, turnPut, turnInto}
 use Rattle.lanes.proofs.Calls.{callsIn-at-most}
-use Rattle.lanes.proofs.Pieces.{roomy, restOf, piece-turn, cut-short, ends}
+use Rattle.lanes.proofs.Pieces.{roomy}
 
 -- THE BYTES THAT ARE THERE
 
+-- the lesser of a number and a length is that number, or both are past the end
+least-or-past : (n len k : ℕ) → k ≡ min n len → (k ≡ n) ⊎ ((len ≤ k) × (len ≤ n))
+least-or-past n len k e = go (leb n len) refl
+  where
+    go : (t : Bool) → leb n len ≡ t → (k ≡ n) ⊎ ((len ≤ k) × (len ≤ n))
+    go true h = inl (omega (arith, leb-true n len h))
+    go false h = inr (omega (arith, leb-false n len h), omega (arith, leb-false n len h))
+
 module _ (n : ℕ) (l : List ℕ) (k : ℕ) (e : k ≡ min n (length l)) where
   take-least : take k l ≡ take n l
-  take-least = go (leb n (length l)) refl
-    where
-      go : (t : Bool) → leb n (length l) ≡ t → take k l ≡ take n l
-      go true h = let same : k ≡ n = omega (arith, leb-true n (length l) h) in ap (λ (m : ℕ). take m l) same
-      go false h =
-          let past : length l < n = leb-false n (length l) h in
-          take-all k l (omega arith) ∙ sym (take-all n l (omega arith))
+  take-least =
+      ⊎-elim (λ same. ap (λ (m : ℕ). take m l) same) (λ past. take-all k l (past .0) ∙ sym (take-all n l (past .1)))
+      (least-or-past n (length l) k e)
 
   drop-least : drop k l ≡ drop n l
-  drop-least = go (leb n (length l)) refl
-    where
-      go : (t : Bool) → leb n (length l) ≡ t → drop k l ≡ drop n l
-      go true h = let same : k ≡ n = omega (arith, leb-true n (length l) h) in ap (λ (m : ℕ). drop m l) same
-      go false h =
-          let past : length l < n = leb-false n (length l) h in
-          drop-of-length-le l {i = k} (omega arith) ∙ sym (drop-of-length-le l {i = n} (omega arith))
+  drop-least =
+      ⊎-elim (λ same. ap (λ (m : ℕ). drop m l) same) (λ past. drop-of-length-le l (past .0) ∙ sym (drop-of-length-le l (past .1)))
+      (least-or-past n (length l) k e)
 
 have-is : (left got : ℕ) (bytes : List ℕ) (l have : ℕ) → l ≡ min left (length bytes) → have ≡ l + min got (length bytes - l)
     → take have bytes ≡ take left bytes ++ take got (drop left bytes)
@@ -89,7 +63,8 @@ put-own left bytes =
     ∙ ap (λ (m : List ℕ). take left bytes ++ m) (drop-least left bytes (length (take left bytes)) (length-take left bytes))
     ∙ take-append-drop left bytes
 
-put-first : (l rec : List ℕ) → take (length rec) (putAt l 0 rec) ≡ rec
+-- bytes put at the front are read back from there
+pub put-first : (l rec : List ℕ) → take (length rec) (putAt l 0 rec) ≡ rec
 put-first l rec = ap (take (length rec)) (put-front l rec) ∙ take-append-seam rec (drop (length rec) l)
 
 -- THE END OF THE INPUT
@@ -151,6 +126,14 @@ module _ (d : Desk) (ws bytes : List ℕ) (got : ℕ) (answers : List ℕ) (l : 
   cut-long : l ≡ length (take (d .left) bytes)
   cut-long = e ∙ sym (length-take (d .left) bytes)
 
+  -- what was read is the end of the input, or bytes
+  as-read : (t : Bool) → eqb got 0 ≡ t
+      → turnPut bytes answers (turnOf (deskIn d ws bytes) (cond t Input.ended (Input.got (take got (drop (d .left) bytes)))))
+      ≡ turnInto d ws bytes got answers
+  as-read t z =
+      ap (λ (u : Bool). turnPut bytes answers (turnOf (deskIn d ws bytes)
+      (cond u Input.ended (Input.got (take got (drop (d .left) bytes)))))) (sym z)
+
   pub turn-ended : (written : ℕ) (answers′ : List ℕ) → got ≡ 0 → written ≡ length (atEnd l) → answers′ ≡ putAt answers 0 (atEnd l)
       → turnedIn (record { desk = record { board = d .board; left = l }; written = written; more = false }) ws bytes answers′
       ≡ turnInto d ws bytes got answers
@@ -165,107 +148,11 @@ module _ (d : Desk) (ws bytes : List ℕ) (got : ℕ) (answers : List ℕ) (l : 
         bytes = sym (put-own (d .left) bytes) i;
         answers = (put ∙ ap (λ (n : ℕ). putAt answers 0 (atEnd n)) cut-long) i;
       })
-      ∙ ap (λ (t : Bool). turnPut bytes answers (turnOf (deskIn d ws bytes)
-      (cond t Input.ended (Input.got (take got (drop (d .left) bytes)))))) (sym (eq-eqb got 0 z))
+      ∙ as-read true (eq-eqb got 0 z)
 
   pub turn-got : (have : ℕ) (o : TurnedIn) → (got ≡ 0 → ⊥) → have ≡ l + min got (length bytes - l)
       → o ≡ turnPut bytes answers (turnOn (d .board) ws (take have bytes)) → o ≡ turnInto d ws bytes got answers
   turn-got have o n h r =
       r
       ∙ ap (λ (p : List ℕ). turnPut bytes answers (turnOn (d .board) ws p)) (have-is (d .left) got bytes l have e h)
-      ∙ ap (λ (t : Bool). turnPut bytes answers (turnOf (deskIn d ws bytes)
-      (cond t Input.ended (Input.got (take got (drop (d .left) bytes)))))) (sym (ne-eqb got 0 n))
-
--- TURN AFTER TURN
-
--- what a turn put into lent bytes is read back from them
-desk-back : (bytes answers : List ℕ) (t : Turning) →
-    let x = leftBy (turnPut bytes answers t) in
-    deskIn (x .desk) (x .words) (x .bytes) ≡ t .desk
-desk-back bytes answers t =
-    λ i. record { board = t .desk .board; words = t .desk .words; cut = put-first bytes (t .desk .cut) i }
-
--- the desk, as a value
-abbrev deskAt : Lent → AtDesk
-deskAt x = deskIn (x .desk) (x .words) (x .bytes)
-
--- one read, and the turn after it
-module _ (x : Lent) (bytes : List ℕ) (n : ℕ) (k : Keeps x bytes) where
-  abbrev turn : Turning
-  turn = turnOf (deskIn (x .desk) (x .words) bytes) (inputIn (x .desk .left) bytes n)
-
-  as-read : (t : Bool) → eqb n 0 ≡ t
-      → turn ≡ turnOf (deskAt x) (cond t Input.ended (Input.got (brought x bytes n)))
-  as-read t e =
-      λ i. turnOf (record { board = x .desk .board; words = x .words; cut = k i })
-      (cond (e i) Input.ended (Input.got (brought x bytes n)))
-
-  sent-is : sentBy (turnAfter x bytes n) ≡ turn .sends
-  sent-is = put-first (x .answers) (turn .sends)
-
-  desk-is : deskAt (leftBy (turnAfter x bytes n)) ≡ turn .desk
-  desk-is = desk-back bytes (x .answers) turn
-
-  -- a turn after a read that brought something
-  module _ (some : eqb n 0 ≡ false) where
-    abbrev value : Turning
-    value = turnOf (deskAt x) (Input.got (brought x bytes n))
-
-    more-is : turn .more ≡ value .more
-    more-is = ap (λ (u : Turning). u .more) (as-read false some)
-
-    -- it is the last: it met bytes that are no call
-    sends-last : turn .more ≡ false → (unread : List ℕ) → sentBy (turnAfter x bytes n) ≡ restOf (deskAt x) (brought x bytes n ++ unread)
-    sends-last m unread =
-        sent-is
-        ∙ ap (λ (u : Turning). u .sends) (as-read false some)
-        ∙ sym (append-nil (value .sends))
-        ∙ ap (λ (b : Bool). value .sends ++ cond b (restOf (value .desk) unread) []) (sym m ∙ more-is)
-        ∙ sym (piece-turn (deskAt x) (brought x bytes n) unread)
-
-    -- there is more to do: the next begins with less than a record, and with what the rest comes to
-    next-short : turn .more ≡ true → length (deskAt (leftBy (turnAfter x bytes n)) .cut) < callBytes
-    next-short m =
-        subst⁻¹ (λ (d : AtDesk). length (d .cut) < callBytes) (desk-is ∙ ap (λ (u : Turning). u .desk) (as-read false some))
-        (cut-short (deskAt x) (brought x bytes n) (sym more-is ∙ m))
-
-    sends-next : turn .more ≡ true → (input : List ℕ)
-        → sentBy (turnAfter x bytes n) ++ restOf (deskAt (leftBy (turnAfter x bytes n))) input
-        ≡ restOf (deskAt x) (brought x bytes n ++ input)
-    sends-next m input =
-        (λ i. sent-is i ++ restOf (desk-is i) input)
-        ∙ ap (λ (u : Turning). u .sends ++ restOf (u .desk) input) (as-read false some)
-        ∙ ap (λ (b : Bool). value .sends ++ cond b (restOf (value .desk) input) []) (sym m ∙ more-is)
-        ∙ sym (piece-turn (deskAt x) (brought x bytes n) input)
-
-  -- after the end of the input there is no more to do
-  more-some : turn .more ≡ true → eqb n 0 ≡ false
-  more-some m = go (eqb n 0) refl
-    where
-      go : (t : Bool) → eqb n 0 ≡ t → t ≡ false
-      go true e = absurd (true≢false (sym m ∙ ap (λ (u : Turning). u .more) (as-read true e)))
-      go false e = refl
-
--- at the end of the input a cut record is RECORD
-sends-end : (x : Lent) (bytes : List ℕ) → Keeps x bytes → length (deskAt x .cut) < callBytes
-    → sentBy (turnAfter x bytes 0) ≡ restOf (deskAt x) []
-sends-end x bytes k h =
-    sent-is x bytes 0 k
-    ∙ ap (λ (t : Turning). t .sends) (as-read x bytes 0 k true refl)
-    ∙ ends (x .desk .board) (x .words) (deskAt x .cut) h
-
-sends : (x : Lent) {input out : List ℕ} {t : TurnedIn} → Turns x input out t → t .turned .more ≡ false
-    → length (deskAt x .cut) < callBytes → out ≡ restOf (deskAt x) input
-sends x (Turns.ended bytes k) e h = sends-end x bytes k h
-sends x (Turns.last bytes n unread k some) e h = sends-last x bytes n k (ne-eqb n 0 (λ z. omega arith)) e unread
-sends x (Turns.next {input = input} bytes n k m r) e h =
-    let some : eqb n 0 ≡ false = more-some x bytes n k m in
-    ap (λ (l : List ℕ). sentBy (turnAfter x bytes n) ++ l)
-    (sends (leftBy (turnAfter x bytes n)) r e (next-short x bytes n k some m))
-    ∙ sends-next x bytes n k some m input
-
--- the turns of a fresh desk send what the desk writes
-pub turns : TurnsPromise
-unfolding deskOf
-turns bytes answers input out t r e =
-    sends (record { desk = freshDesk; words = deskWords; bytes = bytes; answers = answers }) r e (omega arith)
+      ∙ as-read false (ne-eqb got 0 n)
