@@ -1,8 +1,14 @@
 // The desk: reads call records from standard input to the end, and writes an answer to each to standard output.
 use lanes::Desk;
+ghost use mathlib.Core.Path.{_≡_};
+ghost use lib.ListN.{take};
+ghost use Rattle.lanes.specs.Desk.{deskWords};
+ghost use Rattle.desk.specs.Loop.{Ran};
 
 // Reads once, behind the bytes that are left, and says how many bytes came: none at the end of the input.
-fn receive(bytes: &mut [u8], left: usize) -> usize {
+fn receive(bytes: &mut [u8], left: usize) -> usize
+    ensures { λ r. ⌜ take left (now (bytes .exit)) ≡ take left (now (bytes .entry)) ⌝ }
+{
     if bytes.len() <= left {
         return 0;
     }
@@ -25,14 +31,17 @@ fn run(
     cells: &mut [u32; Desk::WORDS],
     bytes: &mut [u8; Desk::INPUT],
     answers: &mut [u8; Desk::OUTPUT],
-) {
+)
+    requires { ⌜ now cells ≡ deskWords ⌝ }
+    ensures { λ r. ⌜ Ran (now (bytes .entry)) (now (answers .entry)) (now (cells .exit)) (now (bytes .exit)) (now (answers .exit)) ⌝ }
+{
     let mut desk = Desk::fresh();
     let mut turns = u64::MAX;
-    while turns > 0 {
+    loop {
         let got = receive(bytes, desk.left);
         let t = desk.turn(cells, bytes, got, answers);
         let sent = send(answers, t.written);
-        if !t.goes_on(sent) {
+        if !t.goes_on(sent) | (turns == 0) {
             return;
         }
         desk = t.desk;

@@ -5,5 +5,6 @@ pub mod Rest
 pub mod Moves
 pub mod Pieces
 pub mod Turns
+pub mod Sends
 pub mod Example
 pub mod Unique

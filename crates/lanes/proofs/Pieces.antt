@@ -1,6 +1,7 @@
 -- The input served in any pieces is the input served whole: `pieces`.
---     piece    one piece: its answers, then what the rest comes to from there
---     roomy    room for all the answers, or more of it, is the same to serving
+--     roomy        room for all the answers, or more of it, is the same to serving
+--     piece        one piece: its answers, then what the rest comes to from there
+--     piece-turn   the same of a turn
 -- Assumes nothing.
 use mathlib.Core.Path.{_≡_, refl, sym, ap, _∙_, subst⁻¹}
 use mathlib.Core.Logic.{⊎-elim}
@@ -19,7 +20,8 @@ use Rattle.steps.specs.Store.{Store}
 use Rattle.steps.specs.Run.{Run, run}
 use Rattle.lanes.specs.declared.Stop.{Stop}
 use Rattle.lanes.specs.Serve.{noCall, callsIn, repliesOf, recordsOf, wholeCalls, tried, refused, Service, serveFirst, serveOf}
-use Rattle.lanes.specs.Desk.{answersTo, deskOf, AtDesk, atFirst, serveAll, goesOn, turnOn, atEnd, inPieces, PiecesPromise}
+use Rattle.lanes.specs.Desk.{answersTo, deskOf, AtDesk, atFirst, Input, Turning, serveAll, moreAfter, turnOn, atEnd, turnOf, inPieces}
+use Rattle.lanes.specs.Desk.{PiecesPromise}
 use Rattle.lanes.proofs.Calls.{callsIn-front, callsIn-at-most, callsIn-all, callsIn-stop, run-replies, records-append}
 
 -- room for all the answers, or more of it, is the same to serving
@@ -88,7 +90,7 @@ cutOff calls input = cond (eqb (callBytes * length calls) (length input)) [] (an
 -- what the input comes to once a piece of it is served
 abbrev afterPiece : List ℕ → List ℕ → Service → List ℕ
 afterPiece bytes more s =
-    s .answers ++ cond (goesOn (s .stop)) (answersTo (s .store) (drop (s .taken) bytes ++ more)) []
+    s .answers ++ cond (moreAfter (s .stop)) (answersTo (s .store) (drop (s .taken) bytes ++ more)) []
 
 module _ (st : Store) (bytes more : List ℕ) where
   abbrev calls : List Call
@@ -174,14 +176,14 @@ module _ (st : Store) (bytes more : List ℕ) where
       ∙ ap (afterPiece bytes more) (sym (served-stop h))
 
   -- one piece: its answers, then what the rest comes to from there
-  pub piece : answersTo st (bytes ++ more) ≡ afterPiece bytes more (serveAll st bytes)
+  piece : answersTo st (bytes ++ more) ≡ afterPiece bytes more (serveAll st bytes)
   piece =
       ⊎-elim piece-all piece-stop (eq-or-lt-of-le (callsIn-at-most (wholeCalls bytes) bytes))
       ∙ ap (afterPiece bytes more) (sym (all-served st bytes (answerBytes * wholeCalls bytes) (omega arith)))
 
 -- what is left of a piece is less than a record
 abbrev LeftShort : List ℕ → Service → Type 0
-LeftShort bytes s = goesOn (s .stop) ≡ true → length (drop (s .taken) bytes) < callBytes
+LeftShort bytes s = moreAfter (s .stop) ≡ true → length (drop (s .taken) bytes) < callBytes
 
 left-short : (st : Store) (bytes : List ℕ) → LeftShort bytes (serveAll st bytes)
 left-short st bytes =
@@ -192,15 +194,33 @@ left-short st bytes =
     (λ h. subst⁻¹ (LeftShort bytes) (served-stop st bytes [] h) (λ t. absurd (false≢true t)))
     (eq-or-lt-of-le (callsIn-at-most (wholeCalls bytes) bytes)))
 
-cond-same : (t : Bool) (x y : List ℕ) → (t ≡ true → x ≡ y) → cond t x [] ≡ cond t y []
-cond-same true x y f = f refl
-cond-same false x y f = refl
+-- TURN BY TURN
 
+-- what the rest of the input comes to from there
+abbrev pub restOf : AtDesk → List ℕ → List ℕ
+restOf d input = answersTo (d .store) (d .cut ++ input)
+
+-- a turn on bytes: what it sends, then what the rest comes to if there is more to do
+pub piece-turn : (d : AtDesk) (bytes more : List ℕ) →
+    let t = turnOf d (Input.got bytes) in
+    restOf d (bytes ++ more) ≡ t .sends ++ cond (t .more) (restOf (t .desk) more) []
+unfolding turnOn
+piece-turn d bytes more =
+    ap (answersTo (d .store)) (sym (append-assoc (d .cut) bytes more)) ∙ piece (d .store) (d .cut ++ bytes) more
+
+-- what is cut after a turn that says that there is more to do is less than a record
+pub cut-short : (d : AtDesk) (bytes : List ℕ) →
+    let t = turnOf d (Input.got bytes) in
+    t .more ≡ true → length (t .desk .cut) < callBytes
+unfolding turnOn
+cut-short d bytes m = left-short (d .store) (d .cut ++ bytes) m
+
+-- at the end of the input with less than a record left
 cond-flip : (n : ℕ) → cond (eqb n 0) [] (answerRecord noCall) ≡ cond (eqb 0 n) [] (answerRecord noCall)
 cond-flip zero = refl
 cond-flip (suc n) = ap (λ (t : Bool). cond t [] (answerRecord noCall)) (eqb·suc-zero n ∙ sym (eqb·zero-suc n))
 
-ends : (st : Store) (cut : List ℕ) → length cut < callBytes → atEnd (length cut) ≡ answersTo st (cut ++ [])
+pub ends : (st : Store) (cut : List ℕ) → length cut < callBytes → atEnd (length cut) ≡ answersTo st (cut ++ [])
 unfolding answersTo callsIn run recordsOf
 ends st cut h =
     let none : wholeCalls cut ≡ 0 = omega arith in
@@ -208,19 +228,18 @@ ends st cut h =
     ∙ ap (λ (n : ℕ). recordsOf (repliesOf (run st (callsIn n cut))) ++ cutOff (callsIn n cut) cut) (sym none)
     ∙ ap (answersTo st) (sym (append-nil cut))
 
-pub in-pieces : (d : AtDesk) (ps : List (List ℕ)) → length (d .cut) < callBytes
-    → inPieces d ps ≡ answersTo (d .store) (d .cut ++ flatten ps)
-unfolding inPieces turnOn flatten
+cond-same : (t : Bool) (x y : List ℕ) → (t ≡ true → x ≡ y) → cond t x [] ≡ cond t y []
+cond-same true x y f = f refl
+cond-same false x y f = refl
+
+pub in-pieces : (d : AtDesk) (ps : List (List ℕ)) → length (d .cut) < callBytes → inPieces d ps ≡ restOf d (flatten ps)
+unfolding inPieces flatten
 in-pieces d [] h = ends (d .store) (d .cut) h
 in-pieces d (p ∷ ps) h =
-    let bytes : List ℕ = d .cut ++ p in
-    let s : Service = serveAll (d .store) bytes in
-    let next : AtDesk = turnOn (d .store) bytes .desk in
-    ap (λ (l : List ℕ). s .answers ++ l)
-    (cond-same (goesOn (s .stop)) (inPieces next ps) (answersTo (next .store) (next .cut ++ flatten ps))
-    (λ t. in-pieces next ps (left-short (d .store) bytes t)))
-    ∙ sym (piece (d .store) bytes (flatten ps))
-    ∙ ap (answersTo (d .store)) (append-assoc (d .cut) p (flatten ps))
+    let t : Turning = turnOf d (Input.got p) in
+    ap (λ (l : List ℕ). t .sends ++ l)
+    (cond-same (t .more) (inPieces (t .desk) ps) (restOf (t .desk) (flatten ps)) (λ m. in-pieces (t .desk) ps (cut-short d p m)))
+    ∙ sym (piece-turn d p (flatten ps))
 
 -- the input served in any pieces is the input served whole
 pub pieces : PiecesPromise

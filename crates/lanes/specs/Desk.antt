@@ -29,6 +29,10 @@ answersTo st input =
 abbrev pub deskStore : Store
 deskStore = freshStore mostCells
 
+-- the words of its cells
+abbrev pub deskWords : List ℕ
+deskWords = deskStore .words
+
 -- The desk program starts a fresh board of 1,024 cells, reads call records from standard input to the end and writes one answer each,
 -- with the call's place byte. At bytes that are no call, or a cut record, it writes RECORD with place 0 and value 0, and stops. Empty
 -- input writes nothing.
@@ -61,11 +65,11 @@ pub record Turning : Type 0 where
 abbrev pub serveAll : Store → List ℕ → Service
 serveAll st bytes = serveOf st bytes (answerBytes * wholeCalls bytes)
 
--- it goes on from the end of the whole records, and not from bytes that are no call
-abbrev pub goesOn : Stop → Bool
-goesOn Stop.End = true
-goesOn Stop.Record = false
-goesOn Stop.Room = false
+-- there is more to do after the end of the whole records, and not after bytes that are no call
+abbrev pub moreAfter : Stop → Bool
+moreAfter Stop.End = true
+moreAfter Stop.Record = false
+moreAfter Stop.Room = false
 
 -- all whole records in the bytes are answered; what is left of the bytes is a cut record
 unfoldable pub turnOn : Store → List ℕ → Turning
@@ -74,7 +78,7 @@ turnOn st bytes =
     record {
       desk = record { store = s .store; cut = drop (s .taken) bytes };
       sends = s .answers;
-      more = goesOn (s .stop);
+      more = moreAfter (s .stop);
     }
 
 -- at the end of the input with so many bytes left: RECORD for a cut record
@@ -137,17 +141,45 @@ turnPut bytes answers t =
 abbrev pub turnInto : Desk → List ℕ → List ℕ → ℕ → List ℕ → TurnedIn
 turnInto d ws bytes n answers = turnPut bytes answers (turnOf (deskIn d ws bytes) (inputIn (d .left) bytes n))
 
+-- TURN AFTER TURN ON THE SAME LENT BYTES
+
+-- the desk between two turns, with what it is lent
+pub record Lent : Type 0 where
+  pub desk : Desk
+  pub words : List ℕ
+  pub bytes : List ℕ
+  pub answers : List ℕ
+
+-- a turn after a read that left such bytes and brought so many of them
+abbrev pub turnAfter : Lent → List ℕ → ℕ → TurnedIn
+turnAfter x bytes n = turnInto (x .desk) (x .words) bytes n (x .answers)
+
+-- a read keeps the cut record
+abbrev pub Keeps : Lent → List ℕ → Type 0
+Keeps x bytes = take (x .desk .left) bytes ≡ take (x .desk .left) (x .bytes)
+
+-- the bytes that it brought
+abbrev pub brought : Lent → List ℕ → ℕ → List ℕ
+brought x bytes n = take n (drop (x .desk .left) bytes)
+
 -- the bytes that a turn sends
 abbrev pub sentBy : TurnedIn → List ℕ
 sentBy t = take (t .turned .written) (t .answers)
 
--- what is sent with the same lent words and bytes turn after turn: a read puts each piece behind the cut record, and at the end of the
--- input it puts none
-unfoldable pub sentIn : Desk → List ℕ → List ℕ → List ℕ → List (List ℕ) → List ℕ
-sentIn d ws bytes answers [] = sentBy (turnInto d ws bytes 0 answers)
-sentIn d ws bytes answers (piece ∷ pieces) =
-    let t : TurnedIn = turnInto d ws (putAt bytes (d .left) piece) (length piece) answers in
-    sentBy t ++ cond (t .turned .more) (sentIn (t .turned .desk) (t .words) (t .bytes) (t .answers) pieces) []
+-- what a turn leaves to the next
+abbrev pub leftBy : TurnedIn → Lent
+leftBy t = record { desk = t .turned .desk; words = t .words; bytes = t .bytes; answers = t .answers }
+
+-- turns one after another, each after a read, up to the end of the input or to any turn before it: the input from there on, what the
+-- turns send, and what the last of them hands back. None comes after one that says that there is no more to do. What stands in the lent
+-- bytes behind those that a read brought may be anything.
+pub data Turns : Lent → List ℕ → List ℕ → TurnedIn → Type 0 where
+  ended : {x : Lent} (bytes : List ℕ) → Keeps x bytes → Turns x [] (sentBy (turnAfter x bytes 0)) (turnAfter x bytes 0)
+  last : {x : Lent} (bytes : List ℕ) (n : ℕ) (unread : List ℕ) → Keeps x bytes → 0 < n
+      → Turns x (brought x bytes n ++ unread) (sentBy (turnAfter x bytes n)) (turnAfter x bytes n)
+  next : {x : Lent} {input out : List ℕ} {t : TurnedIn} (bytes : List ℕ) (n : ℕ) → Keeps x bytes
+      → turnAfter x bytes n .turned .more ≡ true → Turns (leftBy (turnAfter x bytes n)) input out t
+      → Turns x (brought x bytes n ++ input) (sentBy (turnAfter x bytes n) ++ out) t
 
 -- PROMISES
 
@@ -155,12 +187,9 @@ sentIn d ws bytes answers (piece ∷ pieces) =
 abbrev pub PiecesPromise : Type 0
 PiecesPromise = (pieces : List (List ℕ)) → inPieces atFirst pieces ≡ deskOf (flatten pieces)
 
--- a read that comes to nothing is the end of the input
-abbrev pub NoneEmpty : List (List ℕ) → Type 0
-NoneEmpty [] = Unit
-NoneEmpty (piece ∷ pieces) = (0 < length piece) × NoneEmpty pieces
-
--- the same on lent bytes, whatever they hold at first: the turns of a fresh desk send what the desk writes for the whole input
+-- the turns of a fresh desk up to one that says that there is no more to do send what the desk writes for the whole input, whatever the
+-- lent bytes hold at first
 abbrev pub TurnsPromise : Type 0
-TurnsPromise = (bytes answers : List ℕ) (pieces : List (List ℕ)) → NoneEmpty pieces
-    → sentIn freshDesk (deskStore .words) bytes answers pieces ≡ deskOf (flatten pieces)
+TurnsPromise = (bytes answers input out : List ℕ) (t : TurnedIn)
+    → Turns (record { desk = freshDesk; words = deskWords; bytes = bytes; answers = answers }) input out t
+    → t .turned .more ≡ false → out ≡ deskOf input

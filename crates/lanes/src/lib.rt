@@ -18,7 +18,7 @@ ghost use Rattle.records.specs.Format.{answerBytes, callBytes, goesIn, answerRe
 ghost use Rattle.steps.specs.Store.{lent};
 ghost use Rattle.steps.specs.Step.{outcome, step};
 ghost use Rattle.lanes.specs.Serve.{noCall, serving, serveInto, oneAnswered, answerOne};
-ghost use Rattle.lanes.specs.Desk.{deskStore, goesOn, atEnd, turnOn, freshDesk, turnedIn, turnPut, turnInto};
+ghost use Rattle.lanes.specs.Desk.{deskWords, moreAfter, atEnd, turnOn, freshDesk, turnedIn, turnPut, turnInto};
 
 // Why serving stopped: fewer bytes than a call record are left, bytes that are no call, or no room for one more answer.
 pub enum Stop {
@@ -211,7 +211,7 @@ impl Desk {
 
     // 1,024 cells, every word 0.
     pub fn words() -> [u32; Desk::WORDS]
-        ensures { λ r. ⌜ r ≡ deskStore .words ⌝ }
+        ensures { λ r. ⌜ r ≡ deskWords ⌝ }
     {
         [0; Desk::WORDS]
     }
@@ -231,7 +231,7 @@ impl Desk {
         self.turn_with(cells, bytes, got, answers)
     }
 
-    // The same with as much lent as there is room for.
+    // The same on any number of bytes, with room for their answers.
     fn turn_with(
         self,
         cells: &mut [u32],
@@ -284,22 +284,22 @@ fn turn_on(
 {
     let s = serve(board, cells, &bytes[..have], answers);
     let left = carry(bytes, s.taken, have);
-    let next = s.board;
+    let after = s.board;
     let stop = s.stop;
     let desk = Desk {
-        board: next,
+        board: after,
         left: left,
     };
     Turned {
         desk: desk,
         written: s.written,
-        more: goes_on(stop),
+        more: more_after(stop),
     }
 }
 
 // Whether there is more to do after such a stop.
-fn goes_on(stop: Stop) -> bool
-    ensures { λ r. ⌜ r ≡ goesOn stop ⌝ }
+fn more_after(stop: Stop) -> bool
+    ensures { λ r. ⌜ r ≡ moreAfter stop ⌝ }
 {
     match stop {
         Stop::End => true,

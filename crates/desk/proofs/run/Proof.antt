@@ -1,62 +1,67 @@
+-- `run` meets its contract and ends. The loop's invariant: turns that lead on from here lead on from the fresh desk (`Loop`). The measure
+-- is the count of turns. Assumes nothing.
+use mathlib.Core.Path.{_≡_, subst}
+use native.Mathlib.Omega.{arith}
+use denote.Ref.{now}
+use borrow.Author.Needs.{needs}
+use Rattle.lanes.specs.declared.Desk.{Desk}
+use Rattle.lanes.specs.Desk.{freshDesk, TurnedIn, turnedIn, Lent}
+use Rattle.desk.proofs.Loop.{turns-left, more-to-do, Leads, leads-last, leads-next, ran}
 use Rattle.desk.proofs.run.Statement.{statement}
 use Rattle.desk.proofs.run.Tie as tie
-use Rattle.desk.proofs.run.Reads as reads
-use Rattle.desk.proofs.run.Lts as lts
-use Rattle.desk.proofs.receive.Reads as receive-reads
-use Rattle.desk.proofs.send.Reads as send-reads
-use Rattle.lanes.proofs.Desk.fresh.Reads as fresh-reads
-use Rattle.lanes.proofs.Desk.turn.Reads as turn-reads
-use Rattle.lanes.proofs.Turned.goes_on.Reads as goes-on-reads
 
 abbrev Inv-loop : tie.InvT-loop
-Inv-loop cells₀ bytes₀ answers₀ desk₀ turns₀ cells bytes answers desk turns = ?
+Inv-loop cells₀ bytes₀ answers₀ desk₀ turns₀ cells bytes answers desk turns =
+    (t : TurnedIn) → Leads (record { desk = desk; words = cells; bytes = bytes; answers = answers }) t
+    → Leads (record { desk = freshDesk; words = cells₀; bytes = bytes₀; answers = answers₀ }) t
 
 abbrev μ-loop : tie.MeasureT-loop
-μ-loop cells₀ bytes₀ answers₀ desk₀ turns₀ cells bytes answers desk turns = ?
+μ-loop cells₀ bytes₀ answers₀ desk₀ turns₀ cells bytes answers desk turns = turns
 
--- src/main.rt:29:9
-fresh-requires : tie.Need-fresh-requires Inv-loop μ-loop
-fresh-requires c κs = ?
-
--- src/main.rt:31:5
 loop-holds : tie.Need-loop-holds Inv-loop μ-loop
-loop-holds c = ?
+loop-holds c t l =
+    let s = c .before .args in
+    subst (λ (d : Desk). Leads (record { desk = d; words = now (s .cells); bytes = now (s .bytes); answers = now (s .answers) }) t)
+    (c .fresh .ensures) l
 
--- src/main.rt:32:13
-receive-requires : tie.Need-receive-requires Inv-loop μ-loop
-receive-requires c κs = ?
+-- the desk before a turn, and what the turn handed back
+abbrev before : tie.After-turn Inv-loop μ-loop → Lent
+before k =
+    let l = k .before .before .before .before .before .before .loop in
+    record { desk = l .desk; words = l .cells; bytes = l .bytes; answers = l .answers }
 
--- src/main.rt:33:13
-turn-requires : tie.Need-turn-requires Inv-loop μ-loop
-turn-requires c κs = ?
+abbrev handed : tie.After-turn Inv-loop μ-loop → TurnedIn
+handed k = turnedIn (k .turn .result) (k .turn .last .1 .0) (k .turn .last .1 .1 .0) (k .turn .last .1 .1 .1 .1 .0)
 
--- src/main.rt:34:13
-send-requires : tie.Need-send-requires Inv-loop μ-loop
-send-requires c κs = ?
-
--- src/main.rt:35:13
-goes-on-requires : tie.Need-goes-on-requires Inv-loop μ-loop
-goes-on-requires c κs = ?
-
--- src/main.rt:36:13
 returns : tie.Need-returns Inv-loop μ-loop
-returns c = ?
+returns c =
+    let k = c .before .before .before .before .before in
+    let v = k .before .before .before .before in
+    let l = v .before .before in
+    let s = l .before .before in
+    ran (now (s .args .cells)) (now (s .args .bytes)) (now (s .args .answers)) (k .turn .last .1 .0) (k .turn .last .1 .1 .0)
+    (k .turn .last .1 .1 .1 .1 .0) (k .turn .result) (s .pre)
+    (l .loop .inv (handed k) (leads-last (before k) (v .receive .last .0) (v .receive .result) (v .receive .ensures) (handed k) (k .turn .ensures)))
 
--- src/main.rt:39:9
 sub-turns : tie.Need-sub-turns Inv-loop μ-loop
-sub-turns c = ?
+sub-turns c =
+    let g = c .before .before in
+    let l = g .before .before .before .before .before .before .before .before .before .before in
+    turns-left (g .goes-on .result) (l .loop .turns) (c .before .if1 .left)
 
--- src/main.rt:31:5
 loop-less : tie.Need-loop-less Inv-loop μ-loop
-loop-less c = ?
+loop-less c = omega (arith, sub-turns c)
 
--- src/main.rt:31:5
 loop-again : tie.Need-loop-again Inv-loop μ-loop
-loop-again c = ?
-
--- src/main.rt:24:1
-returns-2 : tie.Need-returns-2 Inv-loop μ-loop
-returns-2 c = ?
+loop-again c t on =
+    let g = c .before .before in
+    let k = g .before .before .before .before in
+    let v = k .before .before .before .before in
+    let l = v .before .before in
+    l .loop .inv t
+    (leads-next (before k) (v .receive .last .0) (v .receive .result) (v .receive .ensures) (handed k) (k .turn .ensures)
+    (more-to-do (g .goes-on .result) (l .loop .turns) (c .before .if1 .left) (k .turn .result .more) (g .before .send .result)
+    (g .goes-on .ensures)) t on)
 
 pub run-spec : {M : Type 1} → statement M
 run-spec =
@@ -64,14 +69,13 @@ run-spec =
     (tie.spec
     Inv-loop
     μ-loop
-    fresh-requires
+    (λ c κs. search needs)
     loop-holds
-    receive-requires
-    turn-requires
-    send-requires
-    goes-on-requires
+    (λ c κs. search needs)
+    (λ c κs. search needs)
+    (λ c κs. search needs)
+    (λ c κs. search needs)
     returns
     sub-turns
     loop-less
-    loop-again
-    returns-2)
+    loop-again)

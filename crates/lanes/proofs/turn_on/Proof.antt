@@ -34,8 +34,8 @@ returns c =
     let v = k .before .before .before .before .before .before in
     let s = v .before .before .before .before .before .before .before in
     turn-is (lent (s .args .board) (now (s .args .cells))) (now (s .args .bytes)) (s .args .have) (now (s .args .answers)) (s .pre .0) (s .pre .1)
-    (v .serve .result) (v .serve .last .1 .0) (k .carry .last .0) (v .serve .last .1 .1 .1 .0) (k .carry .result) (c .goes-on .result)
-    (v .serve .ensures) (k .carry .ensures .0) (k .carry .ensures .1) (c .goes-on .ensures)
+    (v .serve .result) (v .serve .last .1 .0) (k .carry .last .0) (v .serve .last .1 .1 .1 .0) (k .carry .result) (c .more-after .result)
+    (v .serve .ensures) (k .carry .ensures .0) (k .carry .ensures .1) (c .more-after .ensures)
 
 pub turn-on-spec : {M : Type 1} → statement M
 turn-on-spec =
