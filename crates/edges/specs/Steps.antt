@@ -153,6 +153,7 @@ preparesDone = did base fiveCells (Call.Prepare 0 returns 0) (baseWith 4 (prepar
 abbrev pub fiveCommitted : List ℕ
 fiveCommitted = four 8 11 3 5 ++ four 9 12 3 5 ++ four 8 13 6 0 ++ four 8 14 3 1 ++ four 0 15 3 0
 
+-- so do these commits
 abbrev pub commitsDone : List Did
 commitsDone =
     did base fiveCells (Call.Commit 0 returns 5) (baseWith 5 (idle 0 0)) fiveCommitted
@@ -167,6 +168,7 @@ commitsDone =
 abbrev pub fiveRolledBack : List ℕ
 fiveRolledBack = four 0 0 0 0 ++ four 0 0 0 0 ++ four 8 13 6 0 ++ four 8 14 3 1 ++ four 0 15 3 0
 
+-- so do these rollbacks
 abbrev pub rollbacksDone : List Did
 rollbacksDone =
     did base fiveCells (Call.Rollback 0 returns 0) (baseWith 4 (idle 0 0)) fiveRolledBack

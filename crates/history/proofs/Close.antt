@@ -15,7 +15,7 @@ use Rattle.cells.specs.Rules.{wiped, stamped}
 use Rattle.steps.specs.declared.State.{State}
 use Rattle.steps.specs.declared.Place.{Place}
 use Rattle.steps.specs.declared.Board.{Board}
-use Rattle.steps.specs.Record.{allPlaces, idlePlace, placeAt}
+use Rattle.steps.specs.Record.{allPlaces, idlePlace, placeAt, withPlace, committedBoard}
 use Rattle.steps.specs.Shape.{held, distinct}
 use Rattle.steps.specs.Step.{numberAt}
 use Rattle.steps.proofs.Tests.{two}
@@ -105,7 +105,7 @@ module _ (b : Board) (cs : List Cell) (L : Ledger) (𝓛 : Linked b cs L) (p : �
 
   -- ROLLBACK
   abbrev back : Board
-  back = record { places = left; starts = b .starts; commits = b .commits }
+  back = withPlace b p idlePlace
 
   abbrev emptied : List Cell
   emptied = map (wiped T) cs
@@ -172,7 +172,7 @@ module _ (b : Board) (cs : List Cell) (L : Ledger) (𝓛 : Linked b cs L) (p : �
   sealed = map (stamped T N) cs
 
   abbrev closed : Board
-  closed = record { places = left; starts = b .starts; commits = N }
+  closed = committedBoard b p
 
   abbrev noted′ : Ledger
   noted′ = tick L (put (L .at) p nobody) past′

@@ -207,8 +207,10 @@ module _ (st : Store) (L : Ledger) (𝓛 : Linked (st .board) (cellsIn st) L) wh
     done-fair : (c : Call) → Cleared (facts st c) → StaysFair c (done st c)
     unfolding accept
     done-fair (Call.Start p) g = fair-start L f p
-    done-fair (Call.Read p k) g = read-fair p k (leb-false _ _ (g Answer.Place)) (open-of (placeAt b p .state) (g Answer.Idle) (g Answer.Spoiled) (g Answer.Held))
-    done-fair (Call.Update p k v) g = update-fair p k v (leb-false _ _ (g Answer.Place)) (open-of (placeAt b p .state) (g Answer.Idle) (g Answer.Spoiled) (g Answer.Held))
+    done-fair (Call.Read p k) g =
+        read-fair p k (leb-false _ _ (g Answer.Place)) (open-of (placeAt b p .state) (g Answer.Idle) (g Answer.Spoiled) (g Answer.Held))
+    done-fair (Call.Update p k v) g =
+        update-fair p k v (leb-false _ _ (g Answer.Place)) (open-of (placeAt b p .state) (g Answer.Idle) (g Answer.Spoiled) (g Answer.Held))
     done-fair (Call.Prepare p) g = fair-turn L f p State.Prepared (leb-false _ _ (g Answer.Place))
     done-fair (Call.Commit p) g = fair-commit L f t p (leb-false _ _ (g Answer.Place))
     done-fair (Call.Rollback p) g = fair-rollback L f p

@@ -13,7 +13,7 @@ use Rattle.cells.specs.declared.Cell.{Cell}
 use Rattle.steps.specs.declared.State.{State}
 use Rattle.steps.specs.declared.Place.{Place}
 use Rattle.steps.specs.declared.Board.{Board}
-use Rattle.steps.specs.Record.{allPlaces, idlePlace, inState, placeAt, withPlace}
+use Rattle.steps.specs.Record.{allPlaces, idlePlace, openPlace, inState, placeAt, withPlace, startedBoard}
 use Rattle.steps.specs.Shape.{held, distinct}
 use Rattle.history.specs.History.{read, lastWrite, Transaction, doing, turned, Ledger, begun, put, tick, opened}
 use Rattle.history.proofs.Basics.{cases, eq?, none-some}
@@ -121,10 +121,10 @@ module _ (b : Board) (cs : List Cell) (L : Ledger) (𝓛 : Linked b cs L) (p : �
 -- A START
 module _ (b : Board) (cs : List Cell) (L : Ledger) (𝓛 : Linked b cs L) (p : ℕ) (l : p < allPlaces) (i : placeAt b p .state ≡ State.Idle) where
   abbrev opening : Place
-  opening = record { state = State.Open; number = b .starts + 1; view = b .commits }
+  opening = openPlace (b .starts + 1) (b .commits)
 
   abbrev started : Board
-  started = record { places = set (b .places) p opening; starts = b .starts + 1; commits = b .commits }
+  started = startedBoard b p
 
   abbrev noted′ : Ledger
   noted′ = opened L (put (L .at) p (begun L))

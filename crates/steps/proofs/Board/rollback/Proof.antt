@@ -11,14 +11,16 @@ use Rattle.steps.proofs.Board.rollback.Tie as tie
 
 -- the call was admitted
 go : (c : tie.After-known-told2)
-    → (let a = c .before .before .before .before .before .args in Passed (lent (a .self) (a .cells .now)) (Call.Rollback (a .place)) (c .before .at .given .0 .0))
+    → (let a = c .before .before .before .before .before .args in
+    Passed (lent (a .self) (a .cells .now)) (Call.Rollback (a .place)) (c .before .at .given .0 .0))
 go c = passed _ _ (c .before .before .before .admit .ensures) (c .before .at .given .1)
 
 returns : tie.Need-returns
 returns c =
     let m = c .before .before .before .before in
     let a = m .before .before .args in
-    refused (lent (a .self) (a .cells .now)) (Call.Rollback (a .place)) (m .admit .ensures) (c .before .before .a .given .1) (c .with .ensures)
+    refused (lent (a .self) (a .cells .now)) (Call.Rollback (a .place))
+    (m .admit .ensures) (c .before .before .a .given .1) (c .with .ensures)
 
 returns-2 : tie.Need-returns-2
 returns-2 c =
