@@ -42,10 +42,10 @@ x86_missing() {
 
 x86_ready() {
     local missing line said
-    mapfile -t missing < <(x86_missing)
-    [ ${#missing[@]} -gt 0 ] || return 0
+    missing=$(x86_missing)
+    [ "$missing" ] || return 0
     # --no-remove: rustc-web does not go with Debian's rustc or rustup, and what the machine has is not ours to take away
-    line="${x86_foreign:+dpkg --add-architecture amd64 && }apt-get update && apt-get install -y --no-remove --no-install-recommends ${missing[*]}"
+    line="${x86_foreign:+dpkg --add-architecture amd64 && }apt-get update && apt-get install -y --no-remove --no-install-recommends ${missing//$'\n'/ }"
     if [ "$(id -u)" != 0 ] || ! command -v apt-get >/dev/null; then
         printf 'x86-64 programs cannot be built and run here yet. As root, on Debian, type:\n    %s\n' "$line" >&2
         exit 1

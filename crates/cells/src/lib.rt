@@ -32,6 +32,9 @@ pub struct Looked {
 }
 
 impl Cell {
+    // Four words to a cell
+    pub const WORDS: usize = 4;
+
     // Four zeros
     pub fn none() -> Cell
         ensures { λ r. ⌜ r ≡ noCell ⌝ }

@@ -13,11 +13,11 @@ use Rattle.records.specs.Format.{putAt, writtenCall, writtenAnswer}
 use Rattle.cells.specs.Cells.{cellsOf, pastCells, wordsOf, withCells}
 use Rattle.cells.specs.Rules.{lowestFrom, hasCell, newest, ownAt, foreignWith, newestSeen, conflict}
 use Rattle.steps.specs.Shape.{inShape}
-use Rattle.steps.specs.Check.{placeCheck, checkOf}
+use Rattle.steps.specs.Check.{firstOf, checkOf}
 use Rattle.steps.specs.Spent.{hasPlace, reusable, heldBack}
-use Rattle.steps.specs.Step.{readAs, updatedAs, step}
-use Rattle.steps.specs.Table.{rows}
-use Rattle.lanes.specs.Serve.{callsIn, runOf, recordsOf}
+use Rattle.steps.specs.Step.{shownAt, updatedAs, step}
+use Rattle.steps.specs.Run.{run}
+use Rattle.lanes.specs.Serve.{callsIn, recordsOf}
 use Rattle.lanes.specs.Desk.{answersTo, deskOf}
 use Rattle.edges.specs.Shape.{ShapesHold}
 use Rattle.edges.specs.Checks.{ChecksHold}
@@ -29,22 +29,22 @@ use Rattle.edges.specs.Desk.{DeskWrites, DeskStarts}
 
 pub shapes : ShapesHold
 unfolding cellsOf pastCells wordsOf withCells lowestFrom hasCell newest ownAt foreignWith newestSeen conflict
-    inShape placeCheck checkOf hasPlace reusable heldBack readAs updatedAs step
+    inShape firstOf checkOf hasPlace reusable heldBack shownAt updatedAs step
 shapes = refl
 
 pub checks : ChecksHold
 unfolding cellsOf pastCells wordsOf withCells lowestFrom hasCell newest ownAt foreignWith newestSeen conflict
-    inShape placeCheck checkOf hasPlace reusable heldBack readAs updatedAs step
+    inShape firstOf checkOf hasPlace reusable heldBack shownAt updatedAs step
 checks = refl
 
 pub order : OrderHolds
 unfolding cellsOf pastCells wordsOf withCells lowestFrom hasCell newest ownAt foreignWith newestSeen conflict
-    inShape placeCheck checkOf hasPlace reusable heldBack readAs updatedAs step rows
+    inShape firstOf checkOf hasPlace reusable heldBack shownAt updatedAs step
 order = refl
 
 pub steps : StepsHold
 unfolding cellsOf pastCells wordsOf withCells lowestFrom hasCell newest ownAt foreignWith newestSeen conflict
-    inShape placeCheck checkOf hasPlace reusable heldBack readAs updatedAs step
+    inShape firstOf checkOf hasPlace reusable heldBack shownAt updatedAs step
 steps = refl
 
 pub calls-written : CallsWritten
@@ -88,11 +88,11 @@ unfolding answerRecord putAt writtenAnswer
 answers-written-at = refl
 
 pub desk-writes : DeskWrites
-unfolding deskOf answersTo callsIn runOf recordsOf callAt callIn callFrom callRecord answerRecord sameBytes
+unfolding deskOf answersTo callsIn run recordsOf callAt callIn callFrom callRecord answerRecord sameBytes
     cellsOf pastCells wordsOf withCells lowestFrom hasCell newest ownAt foreignWith newestSeen conflict
-    inShape placeCheck checkOf hasPlace reusable heldBack readAs updatedAs step
+    inShape firstOf checkOf hasPlace reusable heldBack shownAt updatedAs step
 desk-writes = refl
 
 pub desk-starts : DeskStarts
-unfolding deskOf
+unfolding deskOf wordsOf
 desk-starts input = refl

@@ -4,7 +4,8 @@ use Prim.Native.Nat.{ℕ}
 use mathlib.Core.List.{List, [], _∷_, _++_, map}
 use Rattle.records.specs.declared.Call.{Call}
 use Rattle.steps.specs.declared.Board.{Board}
-use Rattle.steps.specs.Step.{Outcome, step}
+use Rattle.steps.specs.Store.{Said, lent}
+use Rattle.steps.specs.Step.{step}
 use Rattle.edges.specs.Names.{Agree, BOARD, PLACE, BUSY, IDLE, WORN, SPOILED, HELD, KEY, CONFLICT, PREPARED, FULL}
 use Rattle.edges.specs.Names.{opened, spoiled, prepared, counts, zeros, four}
 
@@ -13,16 +14,15 @@ infix 70 _refused_
 -- a call, and the number and the value that are to come back
 pub record Asked : Type 0 where
   pub call : Call
-  pub number : ℕ
-  pub value : ℕ
+  pub said : Said
 
 -- 0 OK: done, with this value
 abbrev pub _returns_ : Call → ℕ → Asked
-_returns_ c v = record { call = c; number = 0; value = v }
+_returns_ c v = record { call = c; said = record { number = 0; value = v } }
 
 -- refused with this number; every refusal returns value 0
 abbrev pub _refused_ : Call → ℕ → Asked
-_refused_ c n = record { call = c; number = n; value = 0 }
+_refused_ c n = record { call = c; said = record { number = n; value = 0 } }
 
 -- a board, and calls each of which is made on just that board
 pub record Block : Type 0 where
@@ -35,12 +35,12 @@ abbrev pub on : Board → List ℕ → List Asked → Block
 on b ws asked = record { board = b; words = ws; asked = asked }
 
 -- the number and the value that come back for each call of a block
-abbrev pub comesBack : Block → List (ℕ × ℕ)
-comesBack k = map (λ (a : Asked). let o : Outcome = step (k .board) (k .words) (a .call) in (o .number, o .value)) (k .asked)
+abbrev pub comesBack : Block → List Said
+comesBack k = map (λ (a : Asked). step (lent (k .board) (k .words)) (a .call) .said) (k .asked)
 
 -- those that document 01 says
-abbrev pub saidBack : Block → List (ℕ × ℕ)
-saidBack k = map (λ (a : Asked). (a .number, a .value)) (k .asked)
+abbrev pub saidBack : Block → List Said
+saidBack k = map (λ (a : Asked). a .said) (k .asked)
 
 -- WORN: start with the start count at 4,000,000,000
 abbrev pub lastStarts : List Block

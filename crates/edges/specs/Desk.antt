@@ -3,6 +3,7 @@
 use mathlib.Core.Path.{_≡_}
 use Prim.Native.Nat.{ℕ}
 use mathlib.Core.List.{List, [], _∷_, _++_}
+use Rattle.steps.specs.Store.{lent}
 use Rattle.lanes.specs.Desk.{answersTo, deskOf}
 use Rattle.edges.specs.Names.{Agree, counts, zeros, eight, ten}
 
@@ -96,4 +97,4 @@ DeskWrites = Agree (λ (r : Session). deskOf (r .input)) (λ (r : Session). r .o
 
 -- it starts a fresh board of 1,024 cells: every place is idle with number and view 0, both counts are 0, and so is every word
 abbrev pub DeskStarts : Type 0
-DeskStarts = (input : List ℕ) → deskOf input ≡ answersTo (counts 0 0 []) (zeros 4_096) input
+DeskStarts = (input : List ℕ) → deskOf input ≡ answersTo (lent (counts 0 0 []) (zeros 4_096)) input

@@ -5,7 +5,8 @@ use mathlib.Core.Bool.{Bool, true}
 use mathlib.Core.List.{List, [], _∷_, _++_, map}
 use Rattle.records.specs.declared.Call.{Call}
 use Rattle.steps.specs.declared.Board.{Board}
-use Rattle.steps.specs.Table.{given}
+use Rattle.steps.specs.Store.{lent}
+use Rattle.steps.specs.Table.{given, rows}
 use Rattle.steps.specs.Step.{step}
 use Rattle.edges.specs.Names.{Agree, BOARD, PLACE, BUSY, IDLE, WORN, SPOILED, HELD, KEY, CONFLICT, PREPARED, FULL}
 use Rattle.edges.specs.Names.{opened, counts, zeros, four}
@@ -43,9 +44,9 @@ abbrev pub givenTo : Pairs → List Given
 givenTo k =
     map
     (λ (t : Twice). record {
-      number = step (k .board) (k .words) (t .call) .number;
-      first = given (t .first) (k .board) (k .words) (t .call);
-      later = given (t .later) (k .board) (k .words) (t .call);
+      number = step (lent (k .board) (k .words)) (t .call) .said .number;
+      first = given (t .first) (rows (lent (k .board) (k .words)) (t .call));
+      later = given (t .later) (rows (lent (k .board) (k .words)) (t .call));
     })
     (k .twice)
 

@@ -7,6 +7,7 @@ use lib.Dec.{eqb}
 use lib.ListN.{replicate}
 use Rattle.records.specs.declared.Call.{Call}
 use Rattle.steps.specs.declared.Board.{Board}
+use Rattle.steps.specs.Store.{lent}
 use Rattle.steps.specs.Step.{step}
 use Rattle.edges.specs.Names.{Agree, BOARD, opened, spoiled, prepared, idle, counts, zeros}
 
@@ -30,7 +31,7 @@ sixCalls = Call.Start 9 ∷ Call.Read 9 7 ∷ Call.Update 9 7 12 ∷ Call.Prepar
 
 -- whether each of them is refused with BOARD
 abbrev pub refusedBoard : Shaped → List Bool
-refusedBoard r = map (λ call. eqb (step (r .board) (r .words) call .number) BOARD) sixCalls
+refusedBoard r = map (λ call. eqb (step (lent (r .board) (r .words)) call .said .number) BOARD) sixCalls
 
 -- on a board in shape none of them is, on any other all are
 abbrev pub saidBoard : Shaped → List Bool

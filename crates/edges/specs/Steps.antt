@@ -5,7 +5,8 @@ use mathlib.Core.List.{List, [], _∷_, _++_}
 use Rattle.records.specs.declared.Call.{Call}
 use Rattle.steps.specs.declared.Place.{Place}
 use Rattle.steps.specs.declared.Board.{Board}
-use Rattle.steps.specs.Step.{Outcome, step}
+use Rattle.steps.specs.Store.{Outcome, lent}
+use Rattle.steps.specs.Step.{step}
 use Rattle.edges.specs.Names.{Agree, CONFLICT, PREPARED, FULL, opened, spoiled, prepared, idle, counts, zeros, four}
 use Rattle.edges.specs.Checks.{Asked, _returns_, _refused_}
 
@@ -27,12 +28,11 @@ left b ws a = did b ws a b ws
 
 -- what the step comes to
 abbrev pub doneBy : Did → Outcome
-doneBy r = step (r .board) (r .words) (r .asked .call)
+doneBy r = step (lent (r .board) (r .words)) (r .asked .call)
 
 -- what document 01 says
 abbrev pub saidBy : Did → Outcome
-saidBy r =
-    record { number = r .asked .number; value = r .asked .value; board = r .boardAfter; words = r .wordsAfter }
+saidBy r = record { said = r .asked .said; store = lent (r .boardAfter) (r .wordsAfter) }
 
 -- T is at place 0, with number 3 and view 2. Place 1 is prepared, with number 4; place 2 is spoiled, with number 5; place 3 is open, with
 -- number 6. There were 9 starts and 4 commits.
@@ -153,6 +153,7 @@ preparesDone = did base fiveCells (Call.Prepare 0 returns 0) (baseWith 4 (prepar
 abbrev pub fiveCommitted : List ℕ
 fiveCommitted = four 8 11 3 5 ++ four 9 12 3 5 ++ four 8 13 6 0 ++ four 8 14 3 1 ++ four 0 15 3 0
 
+-- so do these commits
 abbrev pub commitsDone : List Did
 commitsDone =
     did base fiveCells (Call.Commit 0 returns 5) (baseWith 5 (idle 0 0)) fiveCommitted
@@ -167,6 +168,7 @@ commitsDone =
 abbrev pub fiveRolledBack : List ℕ
 fiveRolledBack = four 0 0 0 0 ++ four 0 0 0 0 ++ four 8 13 6 0 ++ four 8 14 3 1 ++ four 0 15 3 0
 
+-- so do these rollbacks
 abbrev pub rollbacksDone : List Did
 rollbacksDone =
     did base fiveCells (Call.Rollback 0 returns 0) (baseWith 4 (idle 0 0)) fiveRolledBack

@@ -23,22 +23,28 @@ use Rattle.records.specs.Format.{callBytes, answerBytes, goesIn, keyOf, newValu
 use Rattle.records.specs.Format.{callIn, callAt, answerIn, answerAt, putAt}
 use Rattle.records.proofs.RoundTrip.{calls, answers}
 use Rattle.cells.specs.Cells.{wordsOf}
-use Rattle.steps.specs.Record.{mostCells, freshBoard, freshWords}
+use Rattle.steps.specs.Record.{mostCells, freshWords}
+use Rattle.steps.specs.Store.{Store, Said, freshStore}
+use Rattle.steps.specs.Run.{Pair, run}
+use Rattle.steps.proofs.Run.{run-length, run-call}
 use Rattle.steps.proofs.Tests.{and-both as both, and-left, and-right}
-use Rattle.lanes.specs.Serve.{noCall, readThen, callsIn, runOf, recordsOf, wholeCalls, tried, serveFirst, serveOf}
-use Rattle.lanes.specs.Desk.{answersTo, deskWords, deskOf}
+use Rattle.lanes.specs.Serve.{noCall, readThen, callsIn, replyTo, repliesOf, recordsOf, wholeCalls, tried, serveFirst, serveOf}
+use Rattle.lanes.specs.Desk.{answersTo, deskStore, deskOf}
 use Rattle.lanes.proofs.Replies.{answer-back}
-use Rattle.history.specs.History.{Pair, ledger, emptyWords, fromFresh}
+use Rattle.history.specs.History.{noPair, ledger, fromFresh}
 use Rattle.history.specs.Verdict.{Answers, verdict}
-use Rattle.history.specs.Bytes.{noPair, AnswerIs, Tells, inputCalls, bytesLeft, DeskPromise, DeskOnly, DeskSpeaks}
+use Rattle.history.specs.Bytes.{AnswerIs, Tells, inputCalls, bytesLeft, DeskPromise, DeskOnly, DeskSpeaks}
 use Rattle.history.specs.Bytes.{triedCalls, metNoCall, ServePromise, ServeSpeaks}
 use Rattle.history.proofs.Basics.{cases, lt?}
 use Rattle.history.proofs.Demand.{at, demand3}
 use Rattle.history.proofs.Judge.{all-right}
 use Rattle.history.proofs.Small.{small-ledger, step-small}
-use Rattle.history.proofs.Runs.{noStart, replyOf, run-replies, run-board, run-words, run-length, run-call}
 
 -- THE CALLS IN BYTES
+
+-- what stands where there is no call
+abbrev pub noStart : Call
+noStart = noPair .call
 
 call-next : (bs : List ℕ) (i : ℕ) → callAt bs (callBytes * suc i) ≡ callAt (drop callBytes bs) (callBytes * i)
 unfolding callAt
@@ -120,35 +126,35 @@ pub record Recorded (h : Pair) : Type 0 where
   pub same : Answers h answer
   pub fits : replyFits (record { place = placeOf (h .call); answer = answer }) ≡ true
 
-same-reply : (h : Pair) (a : Answer) → Answers h a → replyOf h ≡ record { place = placeOf (h .call); answer = a }
+same-reply : (h : Pair) (a : Answer) → Answers h a → replyTo h ≡ record { place = placeOf (h .call); answer = a }
 same-reply h a e =
-    let named : answerOf (h .number) (h .value) ≡ a = (λ j. answerOf (e .0 j) (e .1 j)) ∙ answer-back a in
+    let named : answerOf (h .said .number) (h .said .value) ≡ a = ap (λ (s : Said). answerOf (s .number) (s .value)) e ∙ answer-back a in
     ap (λ (x : Answer). record { place = placeOf (h .call); answer = x }) named
 
 -- a history whose answers have records, and the bytes of those
 module _ (hs : List Pair) (input output : List ℕ) (left : Bool)
     (read : (i : ℕ) → i < length hs → callAt input (callBytes * i) ≡ CallRead.Good (getD hs i noPair .call))
     (has : (i : ℕ) → i < length hs → Recorded (getD hs i noPair))
-    (out : output ≡ recordsOf (map replyOf hs) ++ recordIf left) where
+    (out : output ≡ recordsOf (map replyTo hs) ++ recordIf left) where
   answered : (i : ℕ) → i < length hs → AnswerIs (getD hs i noPair) output i
   answered i g =
       let h : Pair = getD hs i noPair in
       let r : Recorded h = has i g in
       let reply : Reply = record { place = placeOf (h .call); answer = r .answer } in
-      let there : take answerBytes (drop (answerBytes * i) output) ≡ answerRecord (replyOf h) =
+      let there : take answerBytes (drop (answerBytes * i) output) ≡ answerRecord (replyTo h) =
       ap (λ (l : List ℕ). take answerBytes (drop (answerBytes * i) l)) out
-      ∙ record-at (map replyOf hs) (recordIf left) i (replyOf noPair) (omega (arith, length-map hs replyOf))
-      ∙ ap answerRecord (List·getD-map replyOf hs i noPair) in
+      ∙ record-at (map replyTo hs) (recordIf left) i (replyTo noPair) (omega (arith, length-map hs replyTo))
+      ∙ ap answerRecord (List·getD-map replyTo hs i noPair) in
       let stands : answerAt output (answerBytes * i) ≡ AnswerRead.Good reply =
       answers .reads output (answerBytes * i) reply .1 (r .fits, there ∙ ap answerRecord (same-reply h (r .answer) (r .same))) in
       record { answer = r .answer; same = r .same; stands = stands }
 
   behind : drop (answerBytes * length hs) output ≡ recordIf left
   behind =
-      let len : length (recordsOf (map replyOf hs)) ≡ answerBytes * length hs =
-      records-length (map replyOf hs) ∙ ap (λ (k : ℕ). answerBytes * k) (length-map hs replyOf) in
+      let len : length (recordsOf (map replyTo hs)) ≡ answerBytes * length hs =
+      records-length (map replyTo hs) ∙ ap (λ (k : ℕ). answerBytes * k) (length-map hs replyTo) in
       ap (λ (l : List ℕ). drop (answerBytes * length hs) l) out
-      ∙ drop-at (recordsOf (map replyOf hs)) (recordIf left) (answerBytes * length hs) len
+      ∙ drop-at (recordsOf (map replyTo hs)) (recordIf left) (answerBytes * length hs) len
 
   pub told : Tells hs input output left
   told = record { called = read; answered = answered; behind = behind }
@@ -166,10 +172,10 @@ module _ (n : ℕ) (h : 0 < n) (m : n ≤ mostCells) (cs : List Call)
   B = 256 ^ 4
 
   as-many : length pairs ≡ length cs
-  as-many = run-length cs freshBoard (emptyWords n)
+  as-many = run-length (freshStore n) cs
 
   pub fresh-call : (i : ℕ) → pairAt i .call ≡ getD cs i noStart
-  fresh-call i = run-call cs freshBoard (emptyWords n) i
+  fresh-call i = run-call (freshStore n) cs i noPair
 
   has-record : (i : ℕ) → i < length cs → callFits (pairAt i .call) ≡ true
   has-record i g = ap callFits (fresh-call i) ∙ fit i g
@@ -189,13 +195,13 @@ module _ (n : ℕ) (h : 0 < n) (m : n ≤ mostCells) (cs : List Call)
   split i g = split-at pairs i noPair (omega (arith, as-many))
 
   -- every value answered goes into four bytes
-  answer-goes : (i : ℕ) → i < length cs → pairAt i .value < B
+  answer-goes : (i : ℕ) → i < length cs → pairAt i .said .value < B
   answer-goes i g =
       let s = at n h m cs (take i pairs) (drop (suc i) pairs) (pairAt i) (split i g) in
       let len : length (take i pairs) ≡ i = length-take-le i pairs (omega (arith, as-many)) in
       let small = small-ledger B (omega arith) (take i pairs)
       (λ j l. rw (getD-take i pairs j noPair (omega arith)) (value-goes j (omega arith))) in
-      rw (s .value) (step-small B (omega arith) (omega arith) (s .board) (s .words) (ledger (take i pairs)) (s .shape) (s .linked) small (pairAt i .call))
+      rw (s .said) (step-small B (omega arith) (omega arith) (s .store) (ledger (take i pairs)) (s .shape) (s .linked) small (pairAt i .call))
 
   -- every answer is one of document 01's table
   answer-of : (i : ℕ) → i < length cs → (a : Answer) × Answers (pairAt i) a
@@ -207,19 +213,19 @@ module _ (n : ℕ) (h : 0 < n) (m : n ≤ mostCells) (cs : List Call)
   recorded i l =
       let g : i < length cs = omega (arith, as-many) in
       let a = answer-of i g in
-      let value : valueOf (a .0) < B = rw (← (a .1 .1)) (answer-goes i g) in
+      let value : valueOf (a .0) < B = subst (λ (s : Said). s .value < B) (a .1) (answer-goes i g) in
       record { answer = a .0; same = a .1; fits = both (place-goes i g) (lt-ltb (valueOf (a .0)) B value) }
 
 -- the bytes of a history of calls that stand in bytes tell it
 pub bytes-tell : (n : ℕ) → 0 < n → n ≤ mostCells → (cs : List Call) (input output : List ℕ) (left : Bool) → Stands input cs
-    → output ≡ recordsOf (runOf freshBoard (emptyWords n) cs .replies) ++ recordIf left → Tells (fromFresh n cs .pairs) input output left
+    → output ≡ recordsOf (repliesOf (fromFresh n cs)) ++ recordIf left → Tells (fromFresh n cs .pairs) input output left
 bytes-tell n h m cs input output left s out =
     let fit = stands-fit input cs s in
-    let many : length (fromFresh n cs .pairs) ≡ length cs = run-length cs freshBoard (emptyWords n) in
+    let many : length (fromFresh n cs .pairs) ≡ length cs = run-length (freshStore n) cs in
     told (fromFresh n cs .pairs) input output left
     (λ i g. s i (omega arith) ∙ ap CallRead.Good (sym (fresh-call n h m cs fit i)))
     (recorded n h m cs fit)
-    (out ∙ ap (λ (rs : List Reply). recordsOf rs ++ recordIf left) (run-replies cs freshBoard (emptyWords n)))
+    out
 
 -- NO OTHER BYTES
 
@@ -233,16 +239,16 @@ next-answer output i =
 
 -- the answers and what stands behind them fix every byte
 all-bytes : (hs : List Pair) (output : List ℕ) (left : Bool) → ((i : ℕ) → i < length hs → AnswerIs (getD hs i noPair) output i)
-    → drop (answerBytes * length hs) output ≡ recordIf left → output ≡ recordsOf (map replyOf hs) ++ recordIf left
+    → drop (answerBytes * length hs) output ≡ recordIf left → output ≡ recordsOf (map replyTo hs) ++ recordIf left
 unfolding recordsOf
 all-bytes [] output left a b = b
 all-bytes (h ∷ hs) output left a b =
     let x = a 0 (omega arith) in
-    let front : take answerBytes output ≡ answerRecord (replyOf h) =
+    let front : take answerBytes output ≡ answerRecord (replyTo h) =
     answers .reads output 0 (record { place = placeOf (h .call); answer = x .answer }) .0 (x .stands) .1
     ∙ ap answerRecord (sym (same-reply h (x .answer) (x .same))) in
     let far : answerBytes + answerBytes * length hs ≡ answerBytes * suc (length hs) = omega arith in
-    let rest : drop answerBytes output ≡ recordsOf (map replyOf hs) ++ recordIf left =
+    let rest : drop answerBytes output ≡ recordsOf (map replyTo hs) ++ recordIf left =
     all-bytes hs (drop answerBytes output) left
     (λ i g.
     let y = a (suc i) (omega arith) in
@@ -250,7 +256,7 @@ all-bytes (h ∷ hs) output left a b =
     (drop-drop (answerBytes * length hs) answerBytes output ∙ ap (λ (n : ℕ). drop n output) far ∙ b) in
     sym (take-append-drop answerBytes output)
     ∙ (λ j. front j ++ rest j)
-    ∙ sym (append-assoc (answerRecord (replyOf h)) (recordsOf (map replyOf hs)) (recordIf left))
+    ∙ sym (append-assoc (answerRecord (replyTo h)) (recordsOf (map replyTo hs)) (recordIf left))
 
 pub tells-one : (hs : List Pair) (input output other : List ℕ) (left : Bool) → Tells hs input output left → Tells hs input other left
     → output ≡ other
@@ -276,7 +282,7 @@ silent-pairs (h ∷ hs) input left t =
 -- THE DESK
 
 -- a fresh board's words are those of empty cells
-pub every-word : (n words : ℕ) → words ≡ 4 * n → freshWords words ≡ emptyWords n
+pub every-word : (n words : ℕ) → words ≡ 4 * n → freshWords words ≡ freshStore n .words
 unfolding wordsOf
 every-word zero words e = rw e
 every-word (suc n) words e =
@@ -295,21 +301,20 @@ last-call input =
     let l : ℕ = length (inputCalls input) in
     cases (lt? l (wholeCalls input)) (e .1) (λ g. calls .short input (callBytes * l) (omega (arith, e .0)))
 
-desk-bytes : (ws input : List ℕ) → answersTo freshBoard ws input
-    ≡ recordsOf (runOf freshBoard ws (inputCalls input) .replies) ++ recordIf (bytesLeft input)
+desk-bytes : (st : Store) (input : List ℕ) → answersTo st input
+    ≡ recordsOf (repliesOf (run st (inputCalls input))) ++ recordIf (bytesLeft input)
 unfolding answersTo
-desk-bytes ws input =
-    ap (λ (l : List ℕ). recordsOf (runOf freshBoard ws (inputCalls input) .replies) ++ l)
+desk-bytes st input =
+    ap (λ (l : List ℕ). recordsOf (repliesOf (run st (inputCalls input))) ++ l)
     (record-unless (eqb (callBytes * length (inputCalls input)) (length input)))
 
 pub desk-tells : DeskPromise
 unfolding deskOf
 desk-tells input =
     let cs : List Call = inputCalls input in
-    let out = ap (λ (ws : List ℕ). answersTo freshBoard ws input) (every-word mostCells (4 * mostCells) refl) in
     record {
-      tells = bytes-tell mostCells (omega arith) (omega arith) cs input (answersTo freshBoard deskWords input) (bytesLeft input)
-          (calls-stand (wholeCalls input) input) (out ∙ desk-bytes (emptyWords mostCells) input);
+      tells = bytes-tell mostCells (omega arith) (omega arith) cs input (answersTo deskStore input) (bytesLeft input)
+          (calls-stand (wholeCalls input) input) (desk-bytes deskStore input);
       last = last-call input;
       demand3 = demand3 mostCells (omega arith) (omega arith) cs;
     }
@@ -323,7 +328,7 @@ desk-speaks n input h t =
     let cs : List Call = inputCalls input in
     let s = silent-pairs (fromFresh n cs .pairs) input (bytesLeft input) (t .tells) in
     let e : callBytes * length cs ≡ length input = eqb-true _ _ (not-false _ (s .1)) in
-    omega (arith, s .0, run-length cs freshBoard (emptyWords n))
+    omega (arith, s .0, run-length (freshStore n) cs)
 
 -- SERVING
 
@@ -336,14 +341,13 @@ unfolding serveOf serveFirst
 serve-tells n h m input lent =
     let records : ℕ = tried input (length lent) in
     let cs : List Call = triedCalls input (length lent) in
-    let bytes : List ℕ = recordsOf (runOf freshBoard (emptyWords n) cs .replies) ++ recordIf (metNoCall input (length lent)) in
+    let bytes : List ℕ = recordsOf (repliesOf (fromFresh n cs)) ++ recordIf (metNoCall input (length lent)) in
     record {
       tells = bytes-tell n h m cs input (take (length bytes) (putAt lent 0 bytes)) (metNoCall input (length lent)) (calls-stand records input)
           (front lent bytes);
       last = λ t. calls-end records input .1 (ltb-true (length cs) records t);
       taken = refl;
-      board = run-board cs freshBoard (emptyWords n);
-      words = run-words cs freshBoard (emptyWords n);
+      store = refl;
       demand3 = demand3 n h m cs;
     }
 
@@ -354,4 +358,4 @@ serve-speaks n input lent served h g e t =
     let u : Tells (fromFresh n cs .pairs) input [] met =
     subst (λ (k : ℕ). Tells (fromFresh n cs .pairs) input (take k (served .answers)) met) e (t .tells) in
     let s = silent-pairs (fromFresh n cs .pairs) input met u in
-    omega (arith, s .0, run-length cs freshBoard (emptyWords n), ltb-false (length cs) (tried input (length lent)) (s .1))
+    omega (arith, s .0, run-length (freshStore n) cs, ltb-false (length cs) (tried input (length lent)) (s .1))

@@ -15,11 +15,11 @@ use Rattle.cells.specs.Rules.{wiped, stamped}
 use Rattle.steps.specs.declared.State.{State}
 use Rattle.steps.specs.declared.Place.{Place}
 use Rattle.steps.specs.declared.Board.{Board}
-use Rattle.steps.specs.Record.{allPlaces, idlePlace, placeAt}
+use Rattle.steps.specs.Record.{allPlaces, idlePlace, placeAt, withPlace, committedBoard}
 use Rattle.steps.specs.Shape.{held, distinct}
 use Rattle.steps.specs.Step.{numberAt}
 use Rattle.steps.proofs.Tests.{two}
-use Rattle.history.specs.History.{lastWrite, Run, nobody, Done, nothing, Ledger, ended, put, tick}
+use Rattle.history.specs.History.{lastWrite, Transaction, nobody, Done, nothing, Ledger, ended, put, tick}
 use Rattle.history.proofs.Basics.{cases, eq?, clash, none-some}
 use Rattle.history.proofs.Facts.{cellAt, pick-true, pick-false, Draft, Version, own-facts, draft-own}
 use Rattle.history.proofs.Leave.{wroteAt}
@@ -66,7 +66,7 @@ module _ (b : Board) (cs : List Cell) (L : Ledger) (𝓛 : Linked b cs L) (p : �
 
   -- the run of another place
   run-other : (q k : ℕ) → (q ≡ p → ⊥) → lastWrite (put (L .at) p nobody q .did) k ≡ wrote L q k
-  run-other q k d = ap (λ (r : Run). lastWrite (r .did) k) (put-other (L .at) p nobody q d)
+  run-other q k d = ap (λ (r : Transaction). lastWrite (r .did) k) (put-other (L .at) p nobody q d)
 
   -- CELLS OF WHICH EACH IS AS IT WAS OR WAS T'S: the drafts of the others
   module _ (after : List Cell) (same : (j : ℕ) → own T (cellAt cs j) ≡ false → cellAt after j ≡ cellAt cs j) where
@@ -105,7 +105,7 @@ module _ (b : Board) (cs : List Cell) (L : Ledger) (𝓛 : Linked b cs L) (p : �
 
   -- ROLLBACK
   abbrev back : Board
-  back = record { places = left; starts = b .starts; commits = b .commits }
+  back = withPlace b p idlePlace
 
   abbrev emptied : List Cell
   emptied = map (wiped T) cs
@@ -172,7 +172,7 @@ module _ (b : Board) (cs : List Cell) (L : Ledger) (𝓛 : Linked b cs L) (p : �
   sealed = map (stamped T N) cs
 
   abbrev closed : Board
-  closed = record { places = left; starts = b .starts; commits = N }
+  closed = committedBoard b p
 
   abbrev noted′ : Ledger
   noted′ = tick L (put (L .at) p nobody) past′

@@ -12,7 +12,7 @@
 use mathlib.Core.Path.{_≡_, refl, sym}
 use mathlib.Core.Logic.{inl, inr}
 use mathlib.Core.Bool.{true, true≢false}
-use mathlib.Core.List.{List, [], _∷_, map}
+use mathlib.Core.List.{List, [], _∷_}
 use Prim.Native.Nat.{ℕ, _<_}
 use native.Mathlib.Omega.{arith}
 use lib.ListN.{take, drop}
@@ -20,14 +20,17 @@ use Rattle.records.specs.declared.Call.{Call}
 use Rattle.cells.specs.Cells.{cellsOf, pastCells, wordsOf, withCells}
 use Rattle.cells.specs.Rules.{lowestFrom, hasCell, newest, ownAt, foreignWith, newestSeen, conflict}
 use Rattle.steps.specs.Shape.{inShape}
-use Rattle.steps.specs.Check.{placeCheck, checkOf}
+use Rattle.steps.specs.Check.{firstOf, checkOf}
 use Rattle.steps.specs.Spent.{hasPlace, reusable, heldBack}
-use Rattle.steps.specs.Step.{readAs, updatedAs, step}
-use Rattle.steps.specs.Situations.{Turn, Situation, onFresh, case2, case5, case9}
-use Rattle.history.specs.History.{read, Wrote, Ledger, doneAt, accept, refuse, ledgerFrom, ledger, leaveFrom, run, Contested, Reaches, Overlapped}
+use Rattle.steps.specs.Step.{shownAt, updatedAs, step}
+use Rattle.steps.specs.Record.{freshBoard}
+use Rattle.steps.specs.Store.{saidOf, lent}
+use Rattle.steps.specs.Run.{Pair, callsOf, run}
+use Rattle.steps.specs.Situations.{Situation, onFresh, case2, case5, case9}
+use Rattle.history.specs.History.{read, Wrote, Ledger, doneAt, accept, refuse, ledgerFrom, ledger, leaveFrom, Contested, Reaches, Overlapped}
 use Rattle.history.specs.History.{ReadsRight, ConflictsExact, LastHolds}
 use Rattle.history.specs.Verdict.{anyBelow, verdict, NeedsCell, Packed}
-use Rattle.history.specs.Examples.{pairOf, AsTold, firstBeganFirst, lastBeganFirst, SharedKey, cheated, allCaught, cheats}
+use Rattle.history.specs.Examples.{AsTold, firstBeganFirst, lastBeganFirst, SharedKey, cheated, allCaught, cheats}
 use Rattle.history.specs.Examples.{Cheat, viewsAlone, newestAtEachRead, anyOldVersion, firstCellOnly, feigning}
 use Rattle.history.specs.Examples.{twoValues, neverWritten, oneKey}
 use Rattle.history.specs.Axioms.{Tx, initial, nth, Writes, ReadsFirst, Int, Latest, Ext, NoConflict}
@@ -38,24 +41,24 @@ use Rattle.history.proofs.Judge.{of-contested, full-right}
 
 pub history2 : AsTold case2
 unfolding cellsOf pastCells wordsOf withCells lowestFrom hasCell newest ownAt foreignWith newestSeen conflict
-    inShape placeCheck checkOf hasPlace reusable heldBack readAs updatedAs step run
+    inShape firstOf checkOf hasPlace reusable heldBack shownAt updatedAs step run
 history2 = refl
 
 pub history5 : AsTold case5
 unfolding cellsOf pastCells wordsOf withCells lowestFrom hasCell newest ownAt foreignWith newestSeen conflict
-    inShape placeCheck checkOf hasPlace reusable heldBack readAs updatedAs step run
+    inShape firstOf checkOf hasPlace reusable heldBack shownAt updatedAs step run
 history5 = refl
 
 pub history9 : AsTold case9
 unfolding cellsOf pastCells wordsOf withCells lowestFrom hasCell newest ownAt foreignWith newestSeen conflict
-    inShape placeCheck checkOf hasPlace reusable heldBack readAs updatedAs step run
+    inShape firstOf checkOf hasPlace reusable heldBack shownAt updatedAs step run
 history9 = refl
 
 -- THEIR LEDGERS
 
 -- the ledger of the first n pairs of a situation
 abbrev upTo : ℕ → Situation → Ledger
-upTo n s = ledger (take n (map pairOf (s .turns)))
+upTo n s = ledger (take n (s .pairs))
 
 pub reaches2 : Reaches (upTo 6 case2) 1 7
 unfolding ledgerFrom accept refuse
@@ -78,11 +81,11 @@ wrote5 = ((3, refl), (4, refl))
 -- the last to commit began first
 pub historyTwo : AsTold (onFresh 4 (lastBeganFirst 2))
 unfolding cellsOf pastCells wordsOf withCells lowestFrom hasCell newest ownAt foreignWith newestSeen conflict
-    inShape placeCheck checkOf hasPlace reusable heldBack readAs updatedAs step run
+    inShape firstOf checkOf hasPlace reusable heldBack shownAt updatedAs step run
 historyTwo = refl
 
 abbrev two : Ledger
-two = ledger (map pairOf (lastBeganFirst 2))
+two = ledger (lastBeganFirst 2)
 
 pub overlappedTwo : Overlapped (doneAt two 0) (doneAt two 1) × (doneAt two 1 .began < doneAt two 0 .began)
 unfolding ledgerFrom accept refuse
@@ -113,26 +116,26 @@ needs9 =
 
 pub packed9 : Packed 2 (upTo 8 case9)
 packed9 =
-    full-right 2 (omega arith) (omega arith) (map (λ (t : Turn). t .call) (case9 .turns)) (take 8 (map pairOf (case9 .turns)))
-    (drop 9 (map pairOf (case9 .turns))) _ history9 needs9 .0 refl
+    full-right 2 (omega arith) (omega arith) (callsOf (case9 .pairs)) (take 8 (case9 .pairs)) (drop 9 (case9 .pairs)) _ history9
+    needs9 .0 refl
 
 -- THE CHEATS
 
 pub cheats-caught : allCaught cheats ≡ true
-unfolding verdict placeCheck anyBelow ledgerFrom accept refuse leaveFrom
+unfolding verdict checkOf firstOf anyBelow ledgerFrom accept refuse leaveFrom
 cheats-caught = refl
 
 -- the ledger before the cheating answer
 abbrev before : Cheat → Ledger
-before c = ledger (map pairOf (c .before))
+before c = ledger (c .before)
 
 -- a cheating read shows something else than what its transaction sees
 pub reads-refuse : (ReadsRight (cheated newestAtEachRead) → ⊥) × (ReadsRight (cheated anyOldVersion) → ⊥) × (ReadsRight (cheated feigning) → ⊥)
 unfolding ledgerFrom accept refuse leaveFrom
 reads-refuse = (
-  λ r. omega (arith, r (map pairOf (newestAtEachRead .before)) [] 1 7 12 refl),
-  λ r. omega (arith, r (map pairOf (anyOldVersion .before)) [] 5 0 0 refl),
-  λ r. omega (arith, r (map pairOf (feigning .before)) [] 0 0 1 refl),
+  λ r. omega (arith, r (newestAtEachRead .before) [] 1 7 12 refl),
+  λ r. omega (arith, r (anyOldVersion .before) [] 5 0 0 refl),
+  λ r. omega (arith, r (feigning .before) [] 0 0 1 refl),
 )
 
 -- a write let through where the key is contested, and one refused where it is not
@@ -142,22 +145,22 @@ conflicts-refuse = (
   λ c.
       let r : Reaches (before viewsAlone) 1 5 = record { place = omega arith; key = omega arith; state = refl; first = refl } in
       let e : Contested (before viewsAlone) 1 5 = inl (0, omega arith, omega arith, (1, refl)) in
-      omega (arith, c (map pairOf (viewsAlone .before)) [] 1 5 2 0 0 refl r .1 e),
+      omega (arith, c (viewsAlone .before) [] 1 5 2 (saidOf (viewsAlone .cheating)) refl r .1 e),
   λ c.
       let r : Reaches (before firstCellOnly) 1 2 = record { place = omega arith; key = omega arith; state = refl; first = refl } in
-      let e : Contested (before firstCellOnly) 1 2 = c (map pairOf (firstCellOnly .before)) [] 1 2 9 9 0 refl r .0 refl in
+      let e : Contested (before firstCellOnly) 1 2 = c (firstCellOnly .before) [] 1 2 9 (saidOf (firstCellOnly .cheating)) refl r .0 refl in
       true≢false (sym (of-contested (before firstCellOnly) 1 2 e)),
 )
 
 -- a committed cell with a number that no commit gave is looked at too
-pub final-refuses : LastHolds [] (wordsOf (record { word = 1; value = 5; number = 1; commit = 9 } ∷ [])) → ⊥
+pub final-refuses : LastHolds [] (lent freshBoard (wordsOf (record { word = 1; value = 5; number = 1; commit = 9 } ∷ []))) → ⊥
 unfolding wordsOf cellsOf newest ledgerFrom leaveFrom
 final-refuses f = omega (arith, f 0)
 
 -- AXIOMS THAT BIND THE STORE
 
-abbrev told : List Turn → Ledger
-told ts = ledger (map pairOf ts)
+abbrev told : List Pair → Ledger
+told hs = ledger hs
 
 pub int-binds : Int (told twoValues) → ⊥
 unfolding ledgerFrom accept refuse

@@ -15,7 +15,7 @@ use lib.ListN.{length, take}
 use lib.Seq.{take-append-le}
 use Rattle.steps.specs.declared.State.{State}
 use Rattle.steps.specs.Record.{allPlaces}
-use Rattle.history.specs.History.{Event, read, write, lastWrite, Wrote, Run, nobody, doing, turned, Done, Ledger, newLedger}
+use Rattle.history.specs.History.{Event, read, write, lastWrite, Wrote, Transaction, nobody, doing, turned, Done, Ledger, newLedger}
 use Rattle.history.specs.History.{doneAt, begun, ended, put, tick, opened, leave, sees, Contested, Overlapped}
 use Rattle.history.proofs.Basics.{cases, eq?, lt?, none-some}
 use Rattle.history.proofs.Link.{put-same, put-other, write-other}
@@ -39,7 +39,7 @@ pub record Fits (D : List Done) (bound seen : ℕ) (did : List Event) : Type 0 w
   pub apart : (i k : ℕ) → seen ≤ i → i < bound → Wrote (nth D i .did) k → Wrote did k → ⊥
   pub told : Told (snapshot D seen) did
 
-abbrev RunFits : List Done → Run → Type 0
+abbrev RunFits : List Done → Transaction → Type 0
 RunFits D r = Fits D (length D) (r .seen) (r .did)
 
 -- the transactions at the places fit, and write apart; each committed one fits those before it
@@ -82,7 +82,7 @@ module _ (D : List Done) (bound seen : ℕ) (did : List Event) (g : Fits D bound
       }
 
 -- one more has committed that wrote no key that this one wrote
-grow-run : (D : List Done) (r : Run) (x : Done) → RunFits D r → r .seen ≤ length D → ((k : ℕ) → Wrote (x .did) k → Wrote (r .did) k → ⊥)
+grow-run : (D : List Done) (r : Transaction) (x : Done) → RunFits D r → r .seen ≤ length D → ((k : ℕ) → Wrote (x .did) k → Wrote (r .did) k → ⊥)
     → RunFits (D ++ (x ∷ [])) r
 grow-run D r x g few a =
     let f = grow-fits D (length D) (r .seen) (r .did) g x (omega arith) few in
@@ -109,9 +109,9 @@ module _ (L : Ledger) (f : Fair L) where
   fair-tick = record { runs = f .runs; others = f .others; dones = f .dones }
 
   -- ANOTHER TRANSACTION AT PLACE p
-  module _ (p starts : ℕ) (r : Run) (g : RunFits (L .past) r)
+  module _ (p starts : ℕ) (r : Transaction) (g : RunFits (L .past) r)
       (o : (q k : ℕ) → q < allPlaces → (q ≡ p → ⊥) → Wrote (L .at q .did) k → Wrote (r .did) k → ⊥) where
-    abbrev runs′ : ℕ → Run
+    abbrev runs′ : ℕ → Transaction
     runs′ = put (L .at) p r
 
     others′ : (q s k : ℕ) → q < allPlaces → s < allPlaces → (s ≡ q → ⊥) → Wrote (runs′ s .did) k → Wrote (runs′ q .did) k → ⊥

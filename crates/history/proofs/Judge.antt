@@ -15,24 +15,25 @@ use lib.ListN.{length, take}
 use borrow.Author.Tests.{leb-true, leb-false, le-leb, eqb-true, eqb-false, eq-eqb, ne-eqb, not-true}
 use Rattle.records.specs.declared.Call.{Call}
 use Rattle.records.specs.declared.Answer.{Answer}
-use Rattle.records.specs.Answers.{numberOf, valueOf, placeOf}
+use Rattle.records.specs.Answers.{numberOf, placeOf}
 use Rattle.cells.specs.declared.Cell.{Cell}
 use Rattle.cells.specs.declared.Found.{Found}
-use Rattle.cells.specs.Cells.{cellsOf, ofKey, foreign}
+use Rattle.cells.specs.Cells.{ofKey, foreign}
 use Rattle.cells.specs.Rules.{foreignOf, foreignWith}
 use Rattle.cells.proofs.Words.{length-cells}
 use Rattle.cells.proofs.Meaning.{has-found, some-has}
 use Rattle.steps.specs.declared.State.{State}
 use Rattle.steps.specs.declared.Board.{Board}
-use Rattle.steps.specs.Record.{allPlaces, isIdle, isPrepared, placeAt}
+use Rattle.steps.specs.Record.{allPlaces, allKeys, isIdle, isPrepared, placeAt}
 use Rattle.steps.specs.Shape.{inShape}
-use Rattle.steps.specs.Check.{refuseIf, givenBoard, givenPlace, givenBusy, givenIdle, givenWorn, givenSpoiled, givenHeld, givenKey}
-use Rattle.steps.specs.Check.{placeCheck, checkOf}
+use Rattle.steps.specs.Check.{checkOf}
 use Rattle.steps.specs.Spent.{holdsBack, heldBack, reusable}
-use Rattle.steps.specs.Step.{Outcome, done, readAs, updatedAs, numberAt, viewAt, step}
+use Rattle.steps.specs.Store.{Store, Said, Outcome, cellsIn, saidOf}
+use Rattle.steps.specs.Step.{done, facts, readAs, updatedAs, numberAt, viewAt, step}
+use Rattle.steps.specs.Run.{Pair, pairOf}
 use Rattle.steps.proofs.Tests.{by-test, two, and-both as both, and-left, and-right}
-use Rattle.steps.proofs.Cases.{Cleared, on-read, on-update, open-of}
-use Rattle.history.specs.History.{Pair, answeredBy, Ledger, doneAt, ledger, leave, Contested, Reaches}
+use Rattle.steps.proofs.Cases.{Cleared, cleared, same-check, on-read, on-update, open-of}
+use Rattle.history.specs.History.{Ledger, doneAt, ledger, leave, Contested, Reaches}
 use Rattle.history.specs.Verdict.{anyBelow, isSome, wroteKey, contested, hidden, checksOf, due, verdict, NeedsCell, Packed, Answers}
 use Rattle.history.specs.Verdict.{Right, AllRight, FullRight, Decided}
 use Rattle.history.proofs.Basics.{cases, eq?, clash, or-cases, or-left, or-right, none-some, place-found, some-place}
@@ -152,66 +153,43 @@ module _ (b : Board) (cs : List Cell) (L : Ledger) (𝓛 : Linked b cs L) (p k :
 
 -- THE CHECKS
 
--- an answer with number 0 was refused by no check
-cleared : (b : Board) (words : ℕ) (c : Call) → numberOf (checkOf b words c) ≡ 0 → Cleared b words c
-unfolding checkOf placeCheck
-cleared b words c =
-    let s = placeAt b (placeOf c) .state in
-    let P : Answer → Type 0 = λ a. numberOf a ≡ 0 → Cleared b words c in
-    by-test P (givenBoard b words) (λ _ e. absurd (omega arith)) λ board.
-    by-test P (givenPlace c) (λ _ e. absurd (omega arith)) λ place.
-    by-test P (givenBusy s c) (λ _ e. absurd (omega arith)) λ busy.
-    by-test P (givenIdle s c) (λ _ e. absurd (omega arith)) λ idle.
-    by-test P (givenWorn (b .starts) c) (λ _ e. absurd (omega arith)) λ worn.
-    by-test P (givenSpoiled s c) (λ _ e. absurd (omega arith)) λ spoiled.
-    by-test P (givenHeld s c) (λ _ e. absurd (omega arith)) λ held.
-    by-test P (givenKey c) (λ _ e. absurd (omega arith)) λ key.
-    λ _. record { board = board; place = place; busy = busy; idle = idle; worn = worn; spoiled = spoiled; held = held; key = key }
+module _ (st : Store) (L : Ledger) (s : inShape (st .board) (length (st .words)) ≡ true) (𝓛 : Linked (st .board) (cellsIn st) L) where
+  abbrev b : Board
+  b = st .board
 
-module _ (b : Board) (ws : List ℕ) (L : Ledger) (s : inShape b (length ws) ≡ true) (𝓛 : Linked b (cellsOf ws) L) where
   abbrev cs : List Cell
-  cs = cellsOf ws
+  cs = cellsIn st
 
   -- the ledger's checks are the board's
-  same-checks : (c : Call) → checkOf b (length ws) c ≡ checksOf L c
-  unfolding checkOf
-  same-checks c = rw s (go (givenPlace c) refl)
-    where
-      go : (t : Bool) → givenPlace c ≡ t
-          → refuseIf t Answer.Place (placeCheck (placeAt b (placeOf c) .state) (b .starts) c)
-          ≡ refuseIf t Answer.Place (placeCheck (L .at (placeOf c) .state) (L .starts) c)
-      go true e = refl
-      go false e = rw (𝓛 .placed (placeOf c) (leb-false allPlaces (placeOf c) e) .state, 𝓛 .begun)
+  same-checks : (c : Call) → checkOf (facts st c) ≡ checksOf L c
+  same-checks c =
+      rw (s, 𝓛 .begun) (same-check true (placeAt b (placeOf c) .state) (L .at (placeOf c) .state) (L .starts) c (λ l. 𝓛 .placed (placeOf c) l .state))
 
   -- THE STEPS PROPER
-  abbrev Gives : Call → Outcome → Answer → Type 0
-  Gives c o a = Answers (answeredBy c (o .number) (o .value)) a
-
-  -- what the step gives is due; or it is FULL
+  -- what the step says is due; or it is FULL
   abbrev Due : Call → Outcome → Type 0
-  Due c o = Gives c o (due L c) ⊎ (Gives c o Answer.Full × NeedsCell L c)
+  Due c o = (o .said ≡ saidOf (due L c)) ⊎ ((o .said ≡ saidOf Answer.Full) × NeedsCell L c)
 
-  read-due : (p k : ℕ) → p < allPlaces → placeAt b p .state ≡ State.Open → Due (Call.Read p k) (readAs b ws p k)
+  read-due : (p k : ℕ) → p < allPlaces → placeAt b p .state ≡ State.Open → Due (Call.Read p k) (readAs st p k)
   read-due p k l o =
-      on-read (Due (Call.Read p k)) b ws p k
-      (λ i f. inl (rw (own-cell b cs L 𝓛 p i k l (open-busy b cs L 𝓛 p o) (own-draft (numberAt b p) k cs i f)) (refl, refl)))
-      (λ n t. inl (rw (not-written b cs L 𝓛 p k l n, held-hidden b cs L 𝓛 p k t) (refl, refl)))
-      (λ n t. inl (rw (not-written b cs L 𝓛 p k l n, not-hidden b cs L 𝓛 p k l o t) (
-        refl,
-        live-read b cs L 𝓛 (viewAt b p) (inr (p, l, o, refl)) k
-            ∙ ap (λ (w : ℕ). leave (take w (L .past)) k) (𝓛 .placed p l .view),
-      )))
+      on-read (Due (Call.Read p k)) st p k
+      (λ i f. inl (rw (own-cell b cs L 𝓛 p i k l (open-busy b cs L 𝓛 p o) (own-draft (numberAt b p) k cs i f)) refl))
+      (λ n t. inl (rw (not-written b cs L 𝓛 p k l n, held-hidden b cs L 𝓛 p k t) refl))
+      (λ n t. inl (rw (not-written b cs L 𝓛 p k l n, not-hidden b cs L 𝓛 p k l o t)
+      (ap (λ (v : ℕ). saidOf (Answer.Ok v))
+      (live-read b cs L 𝓛 (viewAt b p) (inr (p, l, o, refl)) k
+      ∙ ap (λ (w : ℕ). leave (take w (L .past)) k) (𝓛 .placed p l .view)))))
 
-  update-due : (p k v : ℕ) → p < allPlaces → placeAt b p .state ≡ State.Open → givenKey (Call.Update p k v) ≡ false
-      → Due (Call.Update p k v) (updatedAs b ws p k v)
+  update-due : (p k v : ℕ) → p < allPlaces → placeAt b p .state ≡ State.Open → leb allKeys k ≡ false
+      → Due (Call.Update p k v) (updatedAs st p k v)
   update-due p k v l o m =
       let h = open-busy b cs L 𝓛 p o in
-      on-update (Due (Call.Update p k v)) b ws p k v
-      (λ i f. inl (rw (own-cell b cs L 𝓛 p i k l h (own-draft (numberAt b p) k cs i f)) (refl, refl)))
-      (λ n t. inl (rw (not-written b cs L 𝓛 p k l n, of-contested L p k (conflict-contested b cs L 𝓛 p k l t)) (refl, refl)))
-      (λ n t i _. inl (rw (not-written b cs L 𝓛 p k l n, not-contested L p k (λ c. clash (contested-conflict b cs L 𝓛 p k l h c) t)) (refl, refl)))
+      on-update (Due (Call.Update p k v)) st p k v
+      (λ i f. inl (rw (own-cell b cs L 𝓛 p i k l h (own-draft (numberAt b p) k cs i f)) refl))
+      (λ n t. inl (rw (not-written b cs L 𝓛 p k l n, of-contested L p k (conflict-contested b cs L 𝓛 p k l t)) refl))
+      (λ n t i _. inl (rw (not-written b cs L 𝓛 p k l n, not-contested L p k (λ c. clash (contested-conflict b cs L 𝓛 p k l h c) t)) refl))
       (λ n t _. inr (
-        (refl, refl),
+        refl,
         record {
           place = p;
           key = k;
@@ -223,30 +201,30 @@ module _ (b : Board) (ws : List ℕ) (L : Ledger) (s : inShape b (length ws) ≡
         },
       ))
 
-  done-due : (c : Call) → Cleared b (length ws) c → Due c (done b ws c)
-  done-due (Call.Start p) g = inl (refl, ap (λ (n : ℕ). n + 1) (𝓛 .begun))
-  done-due (Call.Read p k) g = read-due p k (leb-false _ _ (g .place)) (open-of (placeAt b p .state) (g .idle) (g .spoiled) (g .held))
+  done-due : (c : Call) → Cleared (facts st c) → Due c (done st c)
+  done-due (Call.Start p) g = inl (ap (λ (n : ℕ). saidOf (Answer.Ok (n + 1))) (𝓛 .begun))
+  done-due (Call.Read p k) g = read-due p k (leb-false _ _ (g Answer.Place)) (open-of (placeAt b p .state) (g Answer.Idle) (g Answer.Spoiled) (g Answer.Held))
   done-due (Call.Update p k v) g =
-      update-due p k v (leb-false _ _ (g .place)) (open-of (placeAt b p .state) (g .idle) (g .spoiled) (g .held)) (g .key)
-  done-due (Call.Prepare p) g = inl (refl, refl)
-  done-due (Call.Commit p) g = inl (refl, ap (λ (n : ℕ). n + 1) (𝓛 .counted))
-  done-due (Call.Rollback p) g = inl (refl, refl)
+      update-due p k v (leb-false _ _ (g Answer.Place)) (open-of (placeAt b p .state) (g Answer.Idle) (g Answer.Spoiled) (g Answer.Held)) (g Answer.Key)
+  done-due (Call.Prepare p) g = inl refl
+  done-due (Call.Commit p) g = inl (ap (λ (n : ℕ). saidOf (Answer.Ok (n + 1))) (𝓛 .counted))
+  done-due (Call.Rollback p) g = inl refl
 
   -- EVERY CALL
-  step-right : (c : Call) → Right L (answeredBy c (step b ws c .number) (step b ws c .value))
+  step-right : (c : Call) → Right L (pairOf st c)
   unfolding step verdict
   step-right c = cases (two (eqb (numberOf (checksOf L c)) 0))
-      (λ e. rw (same-checks c, e) (done-due c (cleared b (length ws) c (ap numberOf (same-checks c) ∙ eqb-true _ _ e))))
-      (λ e. inl (rw (same-checks c, e) (refl, refl)))
+      (λ e. rw (same-checks c, e) (done-due c (cleared (facts st c) (ap numberOf (same-checks c) ∙ eqb-true _ _ e))))
+      (λ e. inl (rw (same-checks c, e) refl))
 
   -- FULL
   full-exact : (p k v : ℕ) → Reaches L p k → contested L p k ≡ false
-      → (step b ws (Call.Update p k v) .number ≡ numberOf Answer.Full) ↔ Packed (length cs) L
+      → (step st (Call.Update p k v) .said .number ≡ numberOf Answer.Full) ↔ Packed (length cs) L
   full-exact p k v r c =
       let o = 𝓛 .placed p (r .place) .state ∙ r .state in
-      let P : Outcome → Type 0 = λ x. (x .number ≡ numberOf Answer.Full) ↔ Packed (length cs) L in
-      rw (reaches b ws L s 𝓛 p k v (r .place) (r .key) o)
-      (on-update P b ws p k v
+      let P : Outcome → Type 0 = λ x. (x .said .number ≡ numberOf Answer.Full) ↔ Packed (length cs) L in
+      rw (reaches st L s 𝓛 p k v (r .place) (r .key) o)
+      (on-update P st p k v
       (λ i f. none-some (wrote L p k) (cellAt cs i .value) (r .first)
       (own-cell b cs L 𝓛 p i k (r .place) (open-busy b cs L 𝓛 p o) (own-draft (numberAt b p) k cs i f)))
       (λ n t. clash (of-contested L p k (conflict-contested b cs L 𝓛 p k (r .place) t)) c)
@@ -259,62 +237,57 @@ module _ (b : Board) (ws : List ℕ) (L : Ledger) (s : inShape b (length ws) ≡
 pub all-right : AllRight
 all-right n h l calls before after x e =
     let s = at n h l calls before after x e in
-    let r = step-right (s .board) (s .words) (ledger before) (s .shape) (s .linked) (x .call) in
-    rw (← (s .number), ← (s .value)) at r
+    let r = step-right (s .store) (ledger before) (s .shape) (s .linked) (x .call) in
+    rw (← (s .said)) at r
 
 pub full-right : FullRight
 full-right n h l calls before after x e need =
     let s = at n h l calls before after x e in
     let c = Call.Update (need .place) (need .key) (need .value) in
-    let y : x .number ≡ step (s .board) (s .words) c .number =
-    s .number ∙ ap (λ (c : Call). step (s .board) (s .words) c .number) (need .call) in
-    let m : length (cellsOf (s .words)) ≡ n = length-cells (s .words) ∙ ap (λ (w : ℕ). w / 4) (s .sized) ∙ empty-count n in
-    let r = full-exact (s .board) (s .words) (ledger before) (s .shape) (s .linked) (need .place) (need .key) (need .value) (need .reaches) (need .clear) in
+    let y : x .said .number ≡ step (s .store) c .said .number =
+    ap (λ (x : Said). x .number) (s .said) ∙ ap (λ (c : Call). step (s .store) c .said .number) (need .call) in
+    let m : length (cellsIn (s .store)) ≡ n = length-cells (s .store .words) ∙ ap (λ (w : ℕ). w / 4) (s .sized) ∙ empty-count n in
+    let r = full-exact (s .store) (ledger before) (s .shape) (s .linked) (need .place) (need .key) (need .value) (need .reaches) (need .clear) in
     subst (λ (u : ℕ). (u ≡ numberOf Answer.Full) ↔ Packed n (ledger before)) (sym y)
-    (subst (λ (j : ℕ). (step (s .board) (s .words) c .number ≡ numberOf Answer.Full) ↔ Packed j (ledger before)) m r)
+    (subst (λ (j : ℕ). (step (s .store) c .said .number ≡ numberOf Answer.Full) ↔ Packed j (ledger before)) m r)
 
 -- A LEDGER AND THE NUMBER OF CELLS DECIDE
 
-no-value : (a : Answer) → (numberOf a ≡ 0 → ⊥) → valueOf a ≡ 0
-no-value (Answer.Ok v) e = absurd (e refl)
-no-value Answer.Board e = refl
-no-value Answer.Place e = refl
-no-value Answer.Busy e = refl
-no-value Answer.Idle e = refl
-no-value Answer.Worn e = refl
-no-value Answer.Spoiled e = refl
-no-value Answer.Held e = refl
-no-value Answer.Key e = refl
-no-value Answer.Conflict e = refl
-no-value Answer.Prepared e = refl
-no-value Answer.Full e = refl
-no-value Answer.Record e = refl
+is-full : (a : Answer) → numberOf a ≡ 11 → a ≡ Answer.Full
+is-full (Answer.Ok v) e = absurd (omega arith)
+is-full Answer.Board e = absurd (omega arith)
+is-full Answer.Place e = absurd (omega arith)
+is-full Answer.Busy e = absurd (omega arith)
+is-full Answer.Idle e = absurd (omega arith)
+is-full Answer.Worn e = absurd (omega arith)
+is-full Answer.Spoiled e = absurd (omega arith)
+is-full Answer.Held e = absurd (omega arith)
+is-full Answer.Key e = absurd (omega arith)
+is-full Answer.Conflict e = absurd (omega arith)
+is-full Answer.Prepared e = absurd (omega arith)
+is-full Answer.Full e = refl
+is-full Answer.Record e = absurd (omega arith)
 
 module _ (n : ℕ) (L : Ledger) where
   abbrev ExactFull : Pair → Type 0
-  ExactFull x = NeedsCell L (x .call) → (x .number ≡ numberOf Answer.Full) ↔ Packed n L
-
-  abbrev Same : Pair → Pair → Type 0
-  Same x y = (x .number ≡ y .number) × (x .value ≡ y .value)
+  ExactFull x = NeedsCell L (x .call) → (x .said .number ≡ numberOf Answer.Full) ↔ Packed n L
 
   -- one has the verdict, the other FULL
   mixed : (x y : Pair) → x .call ≡ y .call → ExactFull x → ExactFull y → Answers x (verdict L (x .call))
-      → Answers y Answer.Full → NeedsCell L (y .call) → Same x y
+      → Answers y Answer.Full → NeedsCell L (y .call) → x .said ≡ y .said
   mixed x y c f g a b need =
-      let e : x .number ≡ numberOf Answer.Full = f (subst (λ (d : Call). NeedsCell L d) (sym c) need) .1 (g need .0 (b .0)) in
-      let v = no-value (verdict L (x .call)) (λ z. let y : numberOf Answer.Full ≡ 0 = sym e ∙ a .0 ∙ z in omega arith) in
-      (e ∙ sym (b .0), a .1 ∙ v ∙ sym (b .1))
+      let number : (s t : Said) → s ≡ t → s .number ≡ t .number = λ s t. ap (λ (u : Said). u .number) in
+      let e : x .said .number ≡ 11 = f (subst (λ (d : Call). NeedsCell L d) (sym c) need) .1 (g need .0 (number _ _ b)) in
+      a ∙ ap saidOf (is-full (verdict L (x .call)) (sym (number _ _ a) ∙ e)) ∙ sym b
 
-  agree : (x y : Pair) → x .call ≡ y .call → ExactFull x → ExactFull y → Right L x → Right L y → Same x y
+  agree : (x y : Pair) → x .call ≡ y .call → ExactFull x → ExactFull y → Right L x → Right L y → x .said ≡ y .said
   agree x y c f g r r′ = cases r
       (λ a. cases r′
-      (λ b.
-      let e : verdict L (x .call) ≡ verdict L (y .call) = ap (λ (d : Call). verdict L d) c in
-      (a .0 ∙ ap numberOf e ∙ sym (b .0), a .1 ∙ ap valueOf e ∙ sym (b .1)))
+      (λ b. a ∙ ap (λ (d : Call). saidOf (verdict L d)) c ∙ sym b)
       (λ b. mixed x y c f g a (b .0) (b .1)))
       (λ a. cases r′
-      (λ b. let z = mixed y x (sym c) g f b (a .0) (a .1) in (sym (z .0), sym (z .1)))
-      (λ b. (a .0 .0 ∙ sym (b .0 .0), a .0 .1 ∙ sym (b .0 .1))))
+      (λ b. sym (mixed y x (sym c) g f b (a .0) (a .1)))
+      (λ b. a .0 ∙ sym (b .0)))
 
 pub decided : Decided
 decided n h l calls calls′ before after before′ after′ x y e e′ same c =

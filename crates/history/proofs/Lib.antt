@@ -17,5 +17,4 @@ pub mod Judge
 pub mod Axioms
 pub mod Examples
 pub mod Small
-pub mod Runs
 pub mod Bytes

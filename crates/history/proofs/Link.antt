@@ -17,7 +17,7 @@ use Rattle.steps.specs.declared.Place.{Place}
 use Rattle.steps.specs.declared.Board.{Board}
 use Rattle.steps.specs.Record.{allPlaces, isIdle, idlePlace, placeAt}
 use Rattle.steps.specs.Shape.{held, hasNumber, distinct, counted}
-use Rattle.history.specs.History.{Event, write, lastWrite, Run, Ledger, put}
+use Rattle.history.specs.History.{Event, write, lastWrite, Transaction, Ledger, put}
 use Rattle.steps.proofs.Tests.{by-test, and-left, and-right}
 use Rattle.history.proofs.Basics.{clash, or-left, or-right, none-some}
 use Rattle.history.proofs.Facts.{cellAt, Draft, Version}
@@ -25,10 +25,10 @@ use Rattle.history.proofs.Leave.{wroteAt}
 
 -- LEDGERS
 
-pub put-same : (f : ℕ → Run) (p : ℕ) (r : Run) (q : ℕ) → q ≡ p → put f p r q ≡ r
+pub put-same : (f : ℕ → Transaction) (p : ℕ) (r : Transaction) (q : ℕ) → q ≡ p → put f p r q ≡ r
 put-same f p r q e = rw (eq-eqb q p e)
 
-pub put-other : (f : ℕ → Run) (p : ℕ) (r : Run) (q : ℕ) → (q ≡ p → ⊥) → put f p r q ≡ f q
+pub put-other : (f : ℕ → Transaction) (p : ℕ) (r : Transaction) (q : ℕ) → (q ≡ p → ⊥) → put f p r q ≡ f q
 put-other f p r q e = rw (ne-eqb q p e)
 
 pub write-same : (es : List Event) (k v j : ℕ) → j ≡ k → lastWrite (write k v ∷ es) j ≡ some v
@@ -47,7 +47,7 @@ wrote L p k = lastWrite (L .at p .did) k
 abbrev pub busy : Place → Bool
 busy x = not (isIdle (x .state))
 
-pub record Matches (x : Place) (r : Run) : Type 0 where
+pub record Matches (x : Place) (r : Transaction) : Type 0 where
   pub state : x .state ≡ r .state
   pub view : x .view ≡ r .seen
   pub blank : r .state ≡ State.Idle → (k : ℕ) → lastWrite (r .did) k ≡ none

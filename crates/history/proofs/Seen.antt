@@ -13,13 +13,14 @@ use Rattle.records.specs.declared.Answer.{Answer}
 use Rattle.records.specs.Answers.{numberOf}
 use Rattle.cells.specs.declared.Cell.{Cell}
 use Rattle.cells.specs.declared.Found.{Found}
-use Rattle.cells.specs.Cells.{noCell, cellsOf}
+use Rattle.cells.specs.Cells.{noCell}
 use Rattle.cells.specs.Rules.{newest, ownAt, visible, newestSeen, blocks, conflict}
 use Rattle.cells.proofs.Meaning.{Newest, has-found, some-has, seen-means}
 use Rattle.steps.specs.declared.State.{State}
 use Rattle.steps.specs.declared.Board.{Board}
 use Rattle.steps.specs.Record.{allPlaces, placeAt}
-use Rattle.steps.specs.Step.{Outcome, readAs, updatedAs, numberAt, viewAt}
+use Rattle.steps.specs.Store.{Store, Outcome, cellsIn}
+use Rattle.steps.specs.Step.{readAs, updatedAs, numberAt, viewAt}
 use Rattle.history.specs.History.{Ledger, sees, leave, Contested, versionOf}
 use Rattle.steps.proofs.Tests.{two}
 use Rattle.steps.proofs.Cases.{on-read, on-update}
@@ -129,31 +130,34 @@ module _ (b : Board) (cs : List Cell) (L : Ledger) (𝓛 : Linked b cs L) where
       blocked p k (r .cell) (r .word) (later-blocks (cellAt cs (r .cell)) k (numberAt b p) (viewAt b p) (r .word) n))
 
 -- AT ONE STEP
-module _ (b : Board) (ws : List ℕ) (L : Ledger) (𝓛 : Linked b (cellsOf ws) L) where
+module _ (st : Store) (L : Ledger) (𝓛 : Linked (st .board) (cellsIn st) L) where
+  abbrev b : Board
+  b = st .board
+
   abbrev cs : List Cell
-  cs = cellsOf ws
+  cs = cellsIn st
 
   abbrev Shown : ℕ → ℕ → Outcome → Type 0
-  Shown p k o = o .number ≡ 0 → o .value ≡ sees L p k
+  Shown p k o = o .said .number ≡ 0 → o .said .value ≡ sees L p k
 
   -- a read that is answered
-  pub read-right : (p k : ℕ) → p < allPlaces → placeAt b p .state ≡ State.Open → Shown p k (readAs b ws p k)
+  pub read-right : (p k : ℕ) → p < allPlaces → placeAt b p .state ≡ State.Open → Shown p k (readAs st p k)
   read-right p k l o =
-      on-read (Shown p k) b ws p k
+      on-read (Shown p k) st p k
       (λ i f _. let y = own-cell b cs L 𝓛 p i k l (open-busy b cs L 𝓛 p o) (own-draft (numberAt b p) k cs i f) in rw y)
       (λ _ _ z. absurd (omega arith))
       (λ n _ _. live-read b cs L 𝓛 (viewAt b p) (inr (p, l, o, refl)) k ∙ rw (not-written b cs L 𝓛 p k l n, 𝓛 .placed p l .view))
 
   abbrev Exact : ℕ → ℕ → Outcome → Type 0
-  Exact p k o = (o .number ≡ numberOf Answer.Conflict) ↔ Contested L p k
+  Exact p k o = (o .said .number ≡ numberOf Answer.Conflict) ↔ Contested L p k
 
   pub conflict-exact : (p k new : ℕ) → p < allPlaces → placeAt b p .state ≡ State.Open → wrote L p k ≡ none
-      → Exact p k (updatedAs b ws p k new)
+      → Exact p k (updatedAs st p k new)
   conflict-exact p k new l o w =
       let h = open-busy b cs L 𝓛 p o in
       let calm : conflict k (numberAt b p) (viewAt b p) cs ≡ false → Contested L p k → ⊥ =
       λ t c. clash (contested-conflict b cs L 𝓛 p k l h c) t in
-      on-update (Exact p k) b ws p k new
+      on-update (Exact p k) st p k new
       (λ i f. none-some (wrote L p k) (cellAt cs i .value) w (own-cell b cs L 𝓛 p i k l h (own-draft (numberAt b p) k cs i f)))
       (λ n t. (λ _. conflict-contested b cs L 𝓛 p k l t, λ _. refl))
       (λ n t i _. (λ e. absurd (omega arith), λ c. absurd (calm t c)))

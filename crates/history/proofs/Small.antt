@@ -12,21 +12,22 @@ use native.Mathlib.Omega.{arith}
 use lib.ListN.{length, getD, take}
 use borrow.Author.Tests.{leb-false}
 use Rattle.records.specs.declared.Call.{Call}
+use Rattle.records.specs.declared.Answer.{Answer}
 use Rattle.records.specs.Format.{newValueOf}
 use Rattle.records.proofs.Fields.{All}
 use Rattle.cells.specs.declared.Cell.{Cell}
-use Rattle.cells.specs.Cells.{cellsOf}
 use Rattle.steps.specs.declared.State.{State}
 use Rattle.steps.specs.declared.Board.{Board}
 use Rattle.steps.specs.Record.{allPlaces, mostStarts, placeAt}
 use Rattle.steps.specs.Shape.{inShape}
-use Rattle.steps.specs.Step.{Outcome, done, numberAt, viewAt, step}
+use Rattle.steps.specs.Store.{Store, Said, Outcome, cellsIn}
+use Rattle.steps.specs.Step.{done, facts, numberAt, viewAt, step}
+use Rattle.steps.specs.Run.{Pair}
 use Rattle.steps.proofs.Tests.{by-test}
 use Rattle.steps.proofs.Cases.{Cleared, on-step, on-read, on-update, open-of}
 use Rattle.steps.proofs.Keeps.{shape-of}
-use Rattle.history.specs.History.{Pair, Event, write, lastWrite, Run, nobody, turned, Done, Ledger, newLedger, put, tick}
-use Rattle.history.specs.History.{isOk, isConflict, accept, refuse, note, ledgerFrom, leaveFrom, leave}
-use Rattle.history.specs.Bytes.{noPair}
+use Rattle.history.specs.History.{Event, write, lastWrite, Transaction, nobody, turned, Done, Ledger, newLedger, put, tick}
+use Rattle.history.specs.History.{noPair, isOk, isConflict, accept, refuse, note, ledgerFrom, leaveFrom, leave}
 use Rattle.history.proofs.Basics.{cases, eq?, none-some}
 use Rattle.history.proofs.Facts.{cellAt, own-draft}
 use Rattle.history.proofs.Link.{put-same, put-other, write-same, write-other, Linked, own-cell}
@@ -52,7 +53,7 @@ module _ (B : ℕ) (positive : 0 < B) where
       (λ z. let y : some new ≡ some v = sym (write-same es k new j z) ∙ e in let x : new ≡ v = cc in omega arith)
       (λ z. s j v (sym (write-other es k new j z) ∙ e))
 
-  put-small : (f : ℕ → Run) (p : ℕ) (r : Run) → ((q : ℕ) → Small (f q .did)) → Small (r .did) → (q : ℕ) → Small (put f p r q .did)
+  put-small : (f : ℕ → Transaction) (p : ℕ) (r : Transaction) → ((q : ℕ) → Small (f q .did)) → Small (r .did) → (q : ℕ) → Small (put f p r q .did)
   put-small f p r s t q = cases (eq? q p) (λ e. rw (put-same f p r q e) t) (λ e. rw (put-other f p r q e) (s q))
 
   all-append : (ds : List Done) (d : Done) → All SmallDone ds → SmallDone d → All SmallDone (ds ++ (d ∷ []))
@@ -65,7 +66,7 @@ module _ (B : ℕ) (positive : 0 < B) where
   all-take (suc n) (d ∷ ds) a = (a .0, all-take n ds (a .1))
 
   -- A LEDGER
-  accept-small : (L : Ledger) (c : Call) (v : ℕ) → newValueOf c < B → SmallLedger L → SmallLedger (accept L c v)
+  accept-small : (L : Ledger) (c : Call) (v : Said) → newValueOf c < B → SmallLedger L → SmallLedger (accept L c v)
   unfolding accept
   accept-small L (Call.Start p) v h s = record { runs = put-small (L .at) p _ (s .runs) none-small; past = s .past }
   accept-small L (Call.Read p k) v h s = record { runs = put-small (L .at) p _ (s .runs) (s .runs p); past = s .past }
@@ -81,24 +82,25 @@ module _ (B : ℕ) (positive : 0 < B) where
   refuse-small L (Call.Start p) n s = record { runs = s .runs; past = s .past }
   refuse-small L (Call.Read p k) n s = record { runs = s .runs; past = s .past }
   refuse-small L (Call.Update p k new) n s =
-      by-test (λ (f : ℕ → Run). SmallLedger (tick L f (L .past))) (isConflict n)
+      by-test (λ (f : ℕ → Transaction). SmallLedger (tick L f (L .past))) (isConflict n)
       (λ _. record { runs = put-small (L .at) p (turned State.Spoiled (L .at p)) (s .runs) (s .runs p); past = s .past })
       (λ _. record { runs = s .runs; past = s .past })
   refuse-small L (Call.Prepare p) n s = record { runs = s .runs; past = s .past }
   refuse-small L (Call.Commit p) n s = record { runs = s .runs; past = s .past }
   refuse-small L (Call.Rollback p) n s = record { runs = s .runs; past = s .past }
 
-  note-small : (L : Ledger) (c : Call) (n v : ℕ) → newValueOf c < B → SmallLedger L → SmallLedger (note L c n v)
-  note-small L c n v h s =
-      by-test (λ (M : Ledger). SmallLedger M) (isOk n) (λ _. accept-small L c v h s) (λ _. refuse-small L c n s)
+  note-small : (L : Ledger) (x : Pair) → newValueOf (x .call) < B → SmallLedger L → SmallLedger (note L x)
+  note-small L x h s =
+      by-test (λ (M : Ledger). SmallLedger M) (isOk (x .said .number))
+      (λ _. accept-small L (x .call) (x .said) h s)
+      (λ _. refuse-small L (x .call) (x .said .number) s)
 
   ledger-small : (hs : List Pair) (L : Ledger) → ((j : ℕ) → j < length hs → newValueOf (getD hs j noPair .call) < B) → SmallLedger L
       → SmallLedger (ledgerFrom L hs)
   unfolding ledgerFrom
   ledger-small [] L f s = s
   ledger-small (h ∷ hs) L f s =
-      ledger-small hs (note L (h .call) (h .number) (h .value)) (λ j l. f (suc j) (omega arith))
-      (note-small L (h .call) (h .number) (h .value) (f 0 (omega arith)) s)
+      ledger-small hs (note L h) (λ j l. f (suc j) (omega arith)) (note-small L h (f 0 (omega arith)) s)
 
   pub small-ledger : (hs : List Pair) → ((j : ℕ) → j < length hs → newValueOf (getD hs j noPair .call) < B)
       → SmallLedger (ledgerFrom newLedger hs)
@@ -118,27 +120,30 @@ module _ (B : ℕ) (positive : 0 < B) where
   leave-small L n k s = from-small (take n (L .past)) (λ j. 0) k (λ j. positive) (all-take n (L .past) (s .past))
 
   -- AN ANSWER
-  module _ (wide : mostStarts + 1 < B) (b : Board) (ws : List ℕ) (L : Ledger) (s : inShape b (length ws) ≡ true)
-      (𝓛 : Linked b (cellsOf ws) L) (small : SmallLedger L) where
+  module _ (wide : mostStarts + 1 < B) (st : Store) (L : Ledger) (s : inShape (st .board) (length (st .words)) ≡ true)
+      (𝓛 : Linked (st .board) (cellsIn st) L) (small : SmallLedger L) where
+    abbrev b : Board
+    b = st .board
+
     abbrev cs : List Cell
-    cs = cellsOf ws
+    cs = cellsIn st
 
     abbrev Below : Outcome → Type 0
-    Below o = o .value < B
+    Below o = o .said .value < B
 
-    done-small : (c : Call) → Cleared b (length ws) c → Below (done b ws c)
-    done-small (Call.Start p) g = omega (arith, leb-false mostStarts (b .starts) (g .worn))
+    done-small : (c : Call) → Cleared (facts st c) → Below (done st c)
+    done-small (Call.Start p) g = omega (arith, leb-false mostStarts (b .starts) (g Answer.Worn))
     done-small (Call.Read p k) g =
-        let l = leb-false allPlaces p (g .place) in
-        let o = open-of (placeAt b p .state) (g .idle) (g .spoiled) (g .held) in
-        on-read Below b ws p k
+        let l = leb-false allPlaces p (g Answer.Place) in
+        let o = open-of (placeAt b p .state) (g Answer.Idle) (g Answer.Spoiled) (g Answer.Held) in
+        on-read Below st p k
         (λ i f. small .runs p k (cellAt cs i .value) (own-cell b cs L 𝓛 p i k l (open-busy b cs L 𝓛 p o) (own-draft (numberAt b p) k cs i f)))
         (λ n t. positive)
         (λ n t. rw (live-read b cs L 𝓛 (viewAt b p) (inr (p, l, o, refl)) k) (leave-small L (viewAt b p) k small))
-    done-small (Call.Update p k new) g = on-update Below b ws p k new (λ i f. positive) (λ n t. positive) (λ n t i f. positive) (λ n t f. positive)
+    done-small (Call.Update p k new) g = on-update Below st p k new (λ i f. positive) (λ n t. positive) (λ n t i f. positive) (λ n t f. positive)
     done-small (Call.Prepare p) g = positive
-    done-small (Call.Commit p) g = let h = shape-of b (length ws) s in omega (arith, h .few, h .room)
+    done-small (Call.Commit p) g = let h = shape-of b (length (st .words)) s in omega (arith, h .few, h .room)
     done-small (Call.Rollback p) g = positive
 
-    pub step-small : (c : Call) → step b ws c .value < B
-    step-small c = on-step Below b ws c (λ a h. omega arith) (done-small c)
+    pub step-small : (c : Call) → step st c .said .value < B
+    step-small c = on-step Below st c (λ a h. omega (arith, h .value)) (done-small c)

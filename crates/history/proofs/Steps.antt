@@ -12,9 +12,9 @@ use lib.ListN.{length, set}
 use borrow.Author.Tests.{leb-false, eqb-true, not-false, ne-eqb}
 use Rattle.records.specs.declared.Call.{Call}
 use Rattle.records.specs.declared.Answer.{Answer}
-use Rattle.records.specs.Answers.{numberOf, valueOf}
+use Rattle.records.specs.Answers.{numberOf}
 use Rattle.cells.specs.declared.Cell.{Cell}
-use Rattle.cells.specs.Cells.{cellsOf, empty}
+use Rattle.cells.specs.Cells.{empty}
 use Rattle.cells.specs.Rules.{valued}
 use Rattle.cells.proofs.Words.{cells-with}
 use Rattle.cells.proofs.Meaning.{Lowest, lowest-found, own-found}
@@ -23,7 +23,9 @@ use Rattle.steps.specs.declared.Board.{Board}
 use Rattle.steps.specs.Record.{allPlaces, isIdle, placeAt}
 use Rattle.steps.specs.Shape.{inShape}
 use Rattle.steps.specs.Spent.{spent, free, reusable}
-use Rattle.steps.specs.Step.{Outcome, answered, done, draft, numberAt, readAs, updatedAs, step}
+use Rattle.steps.specs.Store.{Store, Outcome, cellsIn, saidOf, answered}
+use Rattle.steps.specs.Step.{done, draft, numberAt, facts, readAs, updatedAs, step}
+use Rattle.steps.specs.Run.{Pair, pairOf}
 use Rattle.steps.proofs.Cases.{Cleared, on-step, on-read, on-update, open-of}
 use Rattle.steps.proofs.Keeps.{shape-of, keeps-shape}
 use Rattle.history.specs.History.{Ledger, tick, accept, refuse, note, sees}
@@ -48,9 +50,9 @@ refuse-plain L (Call.Prepare p) n e = refl
 refuse-plain L (Call.Commit p) n e = refl
 refuse-plain L (Call.Rollback p) n e = refl
 
-pub note-plain : (L : Ledger) (c : Call) (n v : ℕ) → (n ≡ 0 → ⊥) → (n ≡ numberOf Answer.Conflict → ⊥)
-    → note L c n v ≡ tick L (L .at) (L .past)
-note-plain L c n v e f = rw (ne-eqb n 0 e) (refuse-plain L c n f)
+pub note-plain : (L : Ledger) (h : Pair) → (h .said .number ≡ 0 → ⊥) → (h .said .number ≡ numberOf Answer.Conflict → ⊥)
+    → note L h ≡ tick L (L .at) (L .past)
+note-plain L h e f = rw (ne-eqb (h .said .number) 0 e) (refuse-plain L (h .call) (h .said .number) f)
 
 -- STATES
 
@@ -76,15 +78,27 @@ prepared≢open e = let z : _≡_ {A = ℕ} 0 1 = cc in omega arith
 valued-draft : (c : Cell) (k v t : ℕ) → Draft c t k → _≡_ {A = Cell} (valued v c) (draft k v t)
 valued-draft c k v t d = cc
 
-module _ (b : Board) (ws : List ℕ) (L : Ledger) (𝓛 : Linked b (cellsOf ws) L) where
+-- the call with what an outcome says
+abbrev pairWith : Call → Outcome → Pair
+pairWith c o = record { call = c; said = o .said }
+
+module _ (st : Store) (L : Ledger) (𝓛 : Linked (st .board) (cellsIn st) L) where
+  abbrev b : Board
+  b = st .board
+
+  abbrev ws : List ℕ
+  ws = st .words
+
   abbrev cs : List Cell
-  cs = cellsOf ws
+  cs = cellsIn st
 
   abbrev Kept : Call → Outcome → Type 0
-  Kept c o = inShape (o .board) (length (o .words)) ≡ true → Linked (o .board) (cellsOf (o .words)) (note L c (o .number) (o .value))
+  Kept c o =
+      inShape (o .store .board) (length (o .store .words)) ≡ true
+      → Linked (o .store .board) (cellsIn (o .store)) (note L (pairWith c o))
 
-  refused : (c : Call) (a : Answer) → (numberOf a ≡ 0 → ⊥) → (numberOf a ≡ numberOf Answer.Conflict → ⊥) → Kept c (answered a b ws)
-  refused c a e f s = rw (note-plain L c (numberOf a) (valueOf a) e f) (tick-links b cs L 𝓛)
+  refused : (c : Call) (a : Answer) → (numberOf a ≡ 0 → ⊥) → (numberOf a ≡ numberOf Answer.Conflict → ⊥) → Kept c (answered a st)
+  refused c a e f s = rw (note-plain L (pairWith c (answered a st)) e f) (tick-links b cs L 𝓛)
 
   -- the open place of a read, an update or a prepare
   opened : (p : ℕ) → isIdle (placeAt b p .state) ≡ false → busy (placeAt b p) ≡ true
@@ -95,7 +109,7 @@ module _ (b : Board) (ws : List ℕ) (L : Ledger) (𝓛 : Linked b (cellsOf ws) 
   -- the lowest empty or spent cell
   free-links : (p k v : ℕ) → p < allPlaces → placeAt b p .state ≡ State.Open
       → (i : ℕ) → Lowest (free (b .places) cs) cs i → ((j : ℕ) → Draft (cellAt cs j) (numberAt b p) k → ⊥)
-      → Linked b (set cs i (draft k v (numberAt b p))) (accept L (Call.Update p k v) 0)
+      → Linked b (set cs i (draft k v (numberAt b p))) (accept L (Call.Update p k v) (saidOf (Answer.Ok 0)))
   unfolding accept
   free-links p k v l o i f none =
       let h = or-cases (empty (cellAt cs i)) (spent (b .places) cs (cellAt cs i)) (f .passes) in
@@ -111,7 +125,7 @@ module _ (b : Board) (ws : List ℕ) (L : Ledger) (𝓛 : Linked b (cellsOf ws) 
       (λ e. spent-successor b cs L 𝓛 i e w live m j a q q′))
 
   own-links : (p k v i : ℕ) → p < allPlaces → placeAt b p .state ≡ State.Open → i < length cs → Draft (cellAt cs i) (numberAt b p) k
-      → Linked b (set cs i (draft k v (numberAt b p))) (accept L (Call.Update p k v) 0)
+      → Linked b (set cs i (draft k v (numberAt b p))) (accept L (Call.Update p k v) (saidOf (Answer.Ok 0)))
   unfolding accept
   own-links p k v i l o h d =
       write-links b cs L 𝓛 p k v i l o h
@@ -119,10 +133,10 @@ module _ (b : Board) (ws : List ℕ) (L : Ledger) (𝓛 : Linked b (cellsOf ws) 
       (λ j d′. 𝓛 .single j i _ k d′ d)
       (λ w live m j a q q′. absurd (omega (arith, q, d .commit)))
 
-  update-links : (p k v : ℕ) → p < allPlaces → placeAt b p .state ≡ State.Open → Kept (Call.Update p k v) (updatedAs b ws p k v)
+  update-links : (p k v : ℕ) → p < allPlaces → placeAt b p .state ≡ State.Open → Kept (Call.Update p k v) (updatedAs st p k v)
   unfolding reusable refuse
   update-links p k v l o =
-      on-update (Kept (Call.Update p k v)) b ws p k v
+      on-update (Kept (Call.Update p k v)) st p k v
       (λ i f s.
       let d = own-draft (numberAt b p) k cs i f in
       rw (cells-with ws (set cs i (valued v (cellAt cs i))), valued-draft (cellAt cs i) k v (numberAt b p) d)
@@ -133,72 +147,73 @@ module _ (b : Board) (ws : List ℕ) (L : Ledger) (𝓛 : Linked b (cellsOf ws) 
       (free-links p k v l o i (lowest-found (free (b .places) cs) cs i f) (λ j d. no-draft (numberAt b p) k cs j n d)))
       (λ n t f. refused (Call.Update p k v) Answer.Full (λ e. omega arith) (λ e. omega arith))
 
-  read-kept : (p k : ℕ) → Kept (Call.Read p k) (readAs b ws p k)
+  read-kept : (p k : ℕ) → Kept (Call.Read p k) (readAs st p k)
   unfolding accept
   read-kept p k =
-      on-read (Kept (Call.Read p k)) b ws p k
+      on-read (Kept (Call.Read p k)) st p k
       (λ i f s. read-links b cs L 𝓛 p k _)
       (λ n t. refused (Call.Read p k) Answer.Prepared (λ e. omega arith) (λ e. omega arith))
       (λ n t s. read-links b cs L 𝓛 p k _)
 
   -- EVERY CALL
-  done-links : (c : Call) → Cleared b (length ws) c → Kept c (done b ws c)
+  done-links : (c : Call) → Cleared (facts st c) → Kept c (done st c)
   unfolding accept
   done-links (Call.Start p) g s =
-      start-links b cs L 𝓛 p (leb-false _ _ (g .place)) (idle-of _ (not-false _ (g .busy))) (shape-of _ _ s .apart)
+      start-links b cs L 𝓛 p (leb-false _ _ (g Answer.Place)) (idle-of _ (not-false _ (g Answer.Busy))) (shape-of _ _ s .apart)
   done-links (Call.Read p k) g s = read-kept p k s
   done-links (Call.Update p k v) g s =
-      update-links p k v (leb-false _ _ (g .place)) (open-of (placeAt b p .state) (g .idle) (g .spoiled) (g .held)) s
+      update-links p k v (leb-false _ _ (g Answer.Place)) (open-of (placeAt b p .state) (g Answer.Idle) (g Answer.Spoiled) (g Answer.Held)) s
   done-links (Call.Prepare p) g s =
-      turn-links b cs L 𝓛 p State.Prepared (leb-false _ _ (g .place)) prepared≢idle prepared≢open (shape-of _ _ s .apart)
+      turn-links b cs L 𝓛 p State.Prepared (leb-false _ _ (g Answer.Place)) prepared≢idle prepared≢open (shape-of _ _ s .apart)
   done-links (Call.Commit p) g s =
       rw (cells-with ws (map _ cs))
-      (commit-links b cs L 𝓛 p (leb-false _ _ (g .place)) (opened p (g .idle)) (shape-of _ _ s .apart))
+      (commit-links b cs L 𝓛 p (leb-false _ _ (g Answer.Place)) (opened p (g Answer.Idle)) (shape-of _ _ s .apart))
   done-links (Call.Rollback p) g s =
       rw (cells-with ws (map _ cs))
-      (rollback-links b cs L 𝓛 p (leb-false _ _ (g .place)) (opened p (g .idle)) (shape-of _ _ s .apart))
+      (rollback-links b cs L 𝓛 p (leb-false _ _ (g Answer.Place)) (opened p (g Answer.Idle)) (shape-of _ _ s .apart))
 
   pub step-links : (c : Call) → inShape b (length ws) ≡ true
-      → Linked (step b ws c .board) (cellsOf (step b ws c .words)) (note L c (step b ws c .number) (step b ws c .value))
-  step-links c s =
-      on-step (Kept c) b ws c (λ a h. refused c a (λ e. omega arith) (λ e. omega arith)) (done-links c) (keeps-shape b ws c s)
+      → Linked (step st c .store .board) (cellsIn (step st c .store)) (note L (pairOf st c))
+  step-links c s = on-step (Kept c) st c (λ a h. refused c a (h .refusal) (h .calm)) (done-links c) (keeps-shape st c s)
 
   -- FAIR
   module _ (t : Timed L) (f : Fair L) where
     abbrev StaysFair : Call → Outcome → Type 0
-    StaysFair c o = Fair (note L c (o .number) (o .value))
+    StaysFair c o = Fair (note L (pairWith c o))
 
-    refused-fair : (c : Call) (a : Answer) → (numberOf a ≡ 0 → ⊥) → (numberOf a ≡ numberOf Answer.Conflict → ⊥) → StaysFair c (answered a b ws)
-    refused-fair c a e g = rw (note-plain L c (numberOf a) (valueOf a) e g) (fair-tick L f)
+    refused-fair : (c : Call) (a : Answer) → (numberOf a ≡ 0 → ⊥) → (numberOf a ≡ numberOf Answer.Conflict → ⊥) → StaysFair c (answered a st)
+    refused-fair c a e g = rw (note-plain L (pairWith c (answered a st)) e g) (fair-tick L f)
 
-    update-fair : (p k v : ℕ) → p < allPlaces → placeAt b p .state ≡ State.Open → StaysFair (Call.Update p k v) (updatedAs b ws p k v)
+    update-fair : (p k v : ℕ) → p < allPlaces → placeAt b p .state ≡ State.Open → StaysFair (Call.Update p k v) (updatedAs st p k v)
     unfolding accept refuse
     update-fair p k v l o =
         let h = open-busy b cs L 𝓛 p o in
-        on-update (StaysFair (Call.Update p k v)) b ws p k v
+        on-update (StaysFair (Call.Update p k v)) st p k v
         (λ i e. fair-write L f p k v l (inl (cellAt cs i .value, own-cell b cs L 𝓛 p i k l h (own-draft (numberAt b p) k cs i e))))
         (λ n t. fair-turn L f p State.Spoiled l)
         (λ n t i _. fair-write L f p k v l (inr (λ c. clash (contested-conflict b cs L 𝓛 p k l h c) t)))
         (λ n t _. refused-fair (Call.Update p k v) Answer.Full (λ e. omega arith) (λ e. omega arith))
 
     -- an outcome that is OK, with the value that the transaction sees, or PREPARED
-    read-fair : (p k : ℕ) → p < allPlaces → placeAt b p .state ≡ State.Open → StaysFair (Call.Read p k) (readAs b ws p k)
+    read-fair : (p k : ℕ) → p < allPlaces → placeAt b p .state ≡ State.Open → StaysFair (Call.Read p k) (readAs st p k)
     unfolding accept
     read-fair p k l o =
-        on-read (λ (x : Outcome). (x .number ≡ 0 → x .value ≡ sees L p k) → StaysFair (Call.Read p k) x) b ws p k
+        on-read (λ (x : Outcome). (x .said .number ≡ 0 → x .said .value ≡ sees L p k) → StaysFair (Call.Read p k) x) st p k
         (λ i e r. fair-read L f p k _ l (r refl))
         (λ n t r. refused-fair (Call.Read p k) Answer.Prepared (λ e. omega arith) (λ e. omega arith))
         (λ n t r. fair-read L f p k _ l (r refl))
-        (read-right b ws L 𝓛 p k l o)
+        (read-right st L 𝓛 p k l o)
 
-    done-fair : (c : Call) → Cleared b (length ws) c → StaysFair c (done b ws c)
+    done-fair : (c : Call) → Cleared (facts st c) → StaysFair c (done st c)
     unfolding accept
     done-fair (Call.Start p) g = fair-start L f p
-    done-fair (Call.Read p k) g = read-fair p k (leb-false _ _ (g .place)) (open-of (placeAt b p .state) (g .idle) (g .spoiled) (g .held))
-    done-fair (Call.Update p k v) g = update-fair p k v (leb-false _ _ (g .place)) (open-of (placeAt b p .state) (g .idle) (g .spoiled) (g .held))
-    done-fair (Call.Prepare p) g = fair-turn L f p State.Prepared (leb-false _ _ (g .place))
-    done-fair (Call.Commit p) g = fair-commit L f t p (leb-false _ _ (g .place))
+    done-fair (Call.Read p k) g =
+        read-fair p k (leb-false _ _ (g Answer.Place)) (open-of (placeAt b p .state) (g Answer.Idle) (g Answer.Spoiled) (g Answer.Held))
+    done-fair (Call.Update p k v) g =
+        update-fair p k v (leb-false _ _ (g Answer.Place)) (open-of (placeAt b p .state) (g Answer.Idle) (g Answer.Spoiled) (g Answer.Held))
+    done-fair (Call.Prepare p) g = fair-turn L f p State.Prepared (leb-false _ _ (g Answer.Place))
+    done-fair (Call.Commit p) g = fair-commit L f t p (leb-false _ _ (g Answer.Place))
     done-fair (Call.Rollback p) g = fair-rollback L f p
 
-    pub step-fair : (c : Call) → Fair (note L c (step b ws c .number) (step b ws c .value))
-    step-fair c = on-step (StaysFair c) b ws c (λ a h. refused-fair c a (λ e. omega arith) (λ e. omega arith)) (done-fair c)
+    pub step-fair : (c : Call) → Fair (note L (pairOf st c))
+    step-fair c = on-step (StaysFair c) st c (λ a h. refused-fair c a (h .refusal) (h .calm)) (done-fair c)

@@ -13,7 +13,9 @@ use lib.Seq.{getD-append-seam}
 use Rattle.records.specs.declared.Call.{Call}
 use Rattle.steps.specs.declared.State.{State}
 use Rattle.steps.proofs.Tests.{by-test}
-use Rattle.history.specs.History.{Pair, isOk, isConflict, Run, nobody, turned, Done, nothing, Ledger, newLedger, doneAt, begun, ended}
+use Rattle.steps.specs.Store.{Said}
+use Rattle.steps.specs.Run.{Pair}
+use Rattle.history.specs.History.{isOk, isConflict, Transaction, nobody, turned, Done, nothing, Ledger, newLedger, doneAt, begun, ended}
 use Rattle.history.specs.History.{put, tick, opened, accept, refuse, note, ledgerFrom, ledger}
 use Rattle.history.proofs.Basics.{cases, eq?}
 use Rattle.history.proofs.Link.{put-same, put-other}
@@ -86,7 +88,7 @@ module _ (L : Ledger) (t : Timed L) where
       }
 
   -- ANOTHER TRANSACTION AT PLACE p
-  module _ (p starts : ℕ) (r : Run) (g : Saw (L .past) (length (L .past)) (r .began) (r .seen)) (b : r .began ≤ L .calls) where
+  module _ (p starts : ℕ) (r : Transaction) (g : Saw (L .past) (length (L .past)) (r .began) (r .seen)) (b : r .began ≤ L .calls) where
     pub timed-put : Timed (record { calls = L .calls + 1; starts = starts; at = put (L .at) p r; past = L .past })
     timed-put =
         record {
@@ -106,7 +108,7 @@ module _ (L : Ledger) (t : Timed L) where
       (omega arith)
 
   -- the same transaction, in another state or having done one thing more
-  pub timed-turn : (p : ℕ) (r : Run) → r .began ≡ L .at p .began → r .seen ≡ L .at p .seen → Timed (tick L (put (L .at) p r) (L .past))
+  pub timed-turn : (p : ℕ) (r : Transaction) → r .began ≡ L .at p .began → r .seen ≡ L .at p .seen → Timed (tick L (put (L .at) p r) (L .past))
   timed-turn p r e f = timed-put p (L .starts) r (rw (e, f) (t .runs p)) (rw e (t .begun p))
 
   pub timed-leave : (p : ℕ) → Timed (tick L (put (L .at) p nobody) (L .past))
@@ -161,7 +163,7 @@ module _ (L : Ledger) (t : Timed L) where
         }
 
   -- EVERY PAIR
-  timed-accept : (c : Call) (v : ℕ) → Timed (accept L c v)
+  timed-accept : (c : Call) (v : Said) → Timed (accept L c v)
   unfolding accept
   timed-accept (Call.Start p) v = timed-start p
   timed-accept (Call.Read p k) v = timed-turn p _ refl refl
@@ -175,20 +177,21 @@ module _ (L : Ledger) (t : Timed L) where
   timed-refuse (Call.Start p) n = timed-tick
   timed-refuse (Call.Read p k) n = timed-tick
   timed-refuse (Call.Update p k new) n =
-      by-test (λ (f : ℕ → Run). Timed (tick L f (L .past))) (isConflict n)
+      by-test (λ (f : ℕ → Transaction). Timed (tick L f (L .past))) (isConflict n)
       (λ _. timed-turn p (turned State.Spoiled (L .at p)) refl refl)
       (λ _. timed-tick)
   timed-refuse (Call.Prepare p) n = timed-tick
   timed-refuse (Call.Commit p) n = timed-tick
   timed-refuse (Call.Rollback p) n = timed-tick
 
-  pub timed-note : (c : Call) (n v : ℕ) → Timed (note L c n v)
-  timed-note c n v = by-test Timed (isOk n) (λ _. timed-accept c v) (λ _. timed-refuse c n)
+  pub timed-note : (h : Pair) → Timed (note L h)
+  timed-note h =
+      by-test Timed (isOk (h .said .number)) (λ _. timed-accept (h .call) (h .said)) (λ _. timed-refuse (h .call) (h .said .number))
 
 timed-from : (hs : List Pair) (L : Ledger) → Timed L → Timed (ledgerFrom L hs)
 unfolding ledgerFrom
 timed-from [] L t = t
-timed-from (h ∷ hs) L t = timed-from hs (note L (h .call) (h .number) (h .value)) (timed-note L t (h .call) (h .number) (h .value))
+timed-from (h ∷ hs) L t = timed-from hs (note L h) (timed-note L t h)
 
 pub timed : (hs : List Pair) → Timed (ledger hs)
 timed hs = timed-from hs newLedger fresh-timed

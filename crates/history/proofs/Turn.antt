@@ -13,10 +13,9 @@ use Rattle.cells.specs.declared.Cell.{Cell}
 use Rattle.steps.specs.declared.State.{State}
 use Rattle.steps.specs.declared.Place.{Place}
 use Rattle.steps.specs.declared.Board.{Board}
-use Rattle.steps.specs.Record.{allPlaces, idlePlace, placeAt}
+use Rattle.steps.specs.Record.{allPlaces, idlePlace, openPlace, inState, placeAt, withPlace, startedBoard}
 use Rattle.steps.specs.Shape.{held, distinct}
-use Rattle.steps.specs.Step.{withPlace, inState}
-use Rattle.history.specs.History.{read, lastWrite, Run, doing, turned, Ledger, begun, put, tick, opened}
+use Rattle.history.specs.History.{read, lastWrite, Transaction, doing, turned, Ledger, begun, put, tick, opened}
 use Rattle.history.proofs.Basics.{cases, eq?, none-some}
 use Rattle.history.proofs.Facts.{cellAt}
 use Rattle.history.proofs.Link.{put-same, put-other, wrote, Matches, Live, Linked}
@@ -24,13 +23,13 @@ use Rattle.history.proofs.Link.{put-same, put-other, wrote, Matches, Li
 -- A CALL THAT CHANGES NOTHING ON THE BOARD
 
 -- two runs that differ in nothing that the link speaks of
-pub record Alike (r s : Run) : Type 0 where
+pub record Alike (r s : Transaction) : Type 0 where
   pub state : r .state ≡ s .state
   pub seen : r .seen ≡ s .seen
   pub wrote : (k : ℕ) → lastWrite (r .did) k ≡ lastWrite (s .did) k
 
 module _ (b : Board) (cs : List Cell) (L : Ledger) (𝓛 : Linked b cs L) where
-  alike-links : (f : ℕ → Run) → ((q : ℕ) → Alike (f q) (L .at q)) → Linked b cs (tick L f (L .past))
+  alike-links : (f : ℕ → Transaction) → ((q : ℕ) → Alike (f q) (L .at q)) → Linked b cs (tick L f (L .past))
   alike-links f a =
       record {
         numbers = 𝓛 .numbers;
@@ -122,10 +121,10 @@ module _ (b : Board) (cs : List Cell) (L : Ledger) (𝓛 : Linked b cs L) (p : �
 -- A START
 module _ (b : Board) (cs : List Cell) (L : Ledger) (𝓛 : Linked b cs L) (p : ℕ) (l : p < allPlaces) (i : placeAt b p .state ≡ State.Idle) where
   abbrev opening : Place
-  opening = record { state = State.Open; number = b .starts + 1; view = b .commits }
+  opening = openPlace (b .starts + 1) (b .commits)
 
   abbrev started : Board
-  started = record { places = set (b .places) p opening; starts = b .starts + 1; commits = b .commits }
+  started = startedBoard b p
 
   abbrev noted′ : Ledger
   noted′ = opened L (put (L .at) p (begun L))
@@ -175,7 +174,7 @@ module _ (b : Board) (cs : List Cell) (L : Ledger) (𝓛 : Linked b cs L) (p : �
         drafted = λ q n u h e. cases (eq? q p)
             (λ g. none-some none u refl (rw (put-same (L .at) p (begun L) q g) at e))
             (λ g.
-            let r = 𝓛 .drafted q n u h (sym (ap (λ (r : Run). lastWrite (r .did) n) (put-other (L .at) p (begun L) q g)) ∙ e) in
+            let r = 𝓛 .drafted q n u h (sym (ap (λ (r : Transaction). lastWrite (r .did) n) (put-other (L .at) p (begun L) q g)) ∙ e) in
             (r .0, rw (at-q q g) (r .1)));
         kept = λ w live. 𝓛 .kept w (live″ w live);
         single = 𝓛 .single;

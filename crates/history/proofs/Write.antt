@@ -20,7 +20,7 @@ use Rattle.steps.specs.Record.{allPlaces, isOpen, placeAt}
 use Rattle.steps.specs.Spent.{keepsAt, spent}
 use Rattle.steps.specs.Step.{draft, numberAt, viewAt}
 use Rattle.steps.proofs.Tests.{two, and-both as both}
-use Rattle.history.specs.History.{write, lastWrite, Run, doing, Ledger, put, tick}
+use Rattle.history.specs.History.{write, lastWrite, Transaction, doing, Ledger, put, tick}
 use Rattle.history.proofs.Basics.{cases, eq?, clash, pos, some-place}
 use Rattle.history.proofs.Facts.{cellAt, Draft, Version, newer-facts, between-facts, spent-facts}
 use Rattle.history.proofs.Leave.{wroteAt}
@@ -78,7 +78,7 @@ module _ (b : Board) (cs : List Cell) (L : Ledger) (𝓛 : Linked b cs L) (p k v
   abbrev after : List Cell
   after = set cs i new
 
-  abbrev wrote-p : Run
+  abbrev wrote-p : Transaction
   wrote-p = doing (write k v) (L .at p)
 
   abbrev noted : Ledger
@@ -95,7 +95,7 @@ module _ (b : Board) (cs : List Cell) (L : Ledger) (𝓛 : Linked b cs L) (p k v
       (λ e. cases (eq? j k)
       (λ f. inl (e, f, rw (put-same (L .at) p wrote-p q e) (write-same (L .at p .did) k v j f)))
       (λ f. inr (λ _ g. f g, rw (put-same (L .at) p wrote-p q e) (write-other (L .at p .did) k v j f ∙ rw e refl))))
-      (λ e. inr (λ g _. e g, ap (λ (r : Run). lastWrite (r .did) j) (put-other (L .at) p wrote-p q e)))
+      (λ e. inr (λ g _. e g, ap (λ (r : Transaction). lastWrite (r .did) j) (put-other (L .at) p wrote-p q e)))
 
   placed′ : (q : ℕ) → q < allPlaces → Matches (placeAt b q) (noted .at q)
   placed′ q h = cases (eq? q p)

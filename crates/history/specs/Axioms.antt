@@ -10,7 +10,8 @@ use lib.Dec.{eqb}
 use lib.ListN.{length}
 use Rattle.records.specs.declared.Call.{Call}
 use Rattle.steps.specs.Record.{mostCells}
-use Rattle.history.specs.History.{Pair, Event, read, write, lastWrite, Ledger, doneAt, ledger, fromFresh}
+use Rattle.steps.specs.Run.{Pair}
+use Rattle.history.specs.History.{Event, read, write, lastWrite, Ledger, doneAt, ledger, fromFresh}
 
 -- TRANSACTIONS
 

@@ -12,17 +12,15 @@ use Rattle.records.specs.declared.CallRead.{CallRead}
 use Rattle.records.specs.declared.AnswerRead.{AnswerRead}
 use Rattle.records.specs.Answers.{placeOf}
 use Rattle.records.specs.Format.{callBytes, answerBytes, callAt, answerAt, answerRecord}
-use Rattle.steps.specs.Record.{mostCells, freshBoard}
+use Rattle.steps.specs.Record.{mostCells}
+use Rattle.steps.specs.Store.{freshStore}
+use Rattle.steps.specs.Run.{Pair}
 use Rattle.lanes.specs.Serve.{noCall, callsIn, wholeCalls, tried, Serving, serveInto}
 use Rattle.lanes.specs.Desk.{deskOf}
-use Rattle.history.specs.History.{Pair, answeredBy, emptyWords, fromFresh, Demand3}
+use Rattle.history.specs.History.{noPair, fromFresh, Demand3}
 use Rattle.history.specs.Verdict.{Answers}
 
 -- A HISTORY IN BYTES
-
--- what stands where a history has no pair
-abbrev pub noPair : Pair
-noPair = answeredBy (Call.Start 0) 0 0
 
 -- answer record i has the call's place byte and the pair's number and value
 pub record AnswerIs (h : Pair) (output : List ℕ) (i : ℕ) : Type 0 where
@@ -78,21 +76,20 @@ abbrev pub metNoCall : List ℕ → ℕ → Bool
 metNoCall input room = ltb (length (triedCalls input room)) (tried input room)
 
 -- what `serve` from a fresh board of n cells puts into lent bytes tells the history of the calls tried, with RECORD behind where bytes
--- that are no call were met; those calls are what it takes, and it leaves the record and the words that they leave
+-- that are no call were met; those calls are what it takes, and it leaves the store that they leave
 pub record ServeTells (n : ℕ) (input lent : List ℕ) (served : Serving) : Type 0 where
   pub tells : Tells (fromFresh n (triedCalls input (length lent)) .pairs) input (take (served .written) (served .answers))
       (metNoCall input (length lent))
   pub last : metNoCall input (length lent) ≡ true
       → callAt input (callBytes * length (triedCalls input (length lent))) ≡ CallRead.Record
   pub taken : served .taken ≡ callBytes * length (triedCalls input (length lent))
-  pub board : served .board ≡ fromFresh n (triedCalls input (length lent)) .board
-  pub words : served .words ≡ fromFresh n (triedCalls input (length lent)) .words
+  pub store : served .store ≡ fromFresh n (triedCalls input (length lent)) .store
   pub demand3 : Demand3 (fromFresh n (triedCalls input (length lent)))
 
 -- for every number of cells from 1 to 1,024, any bytes of calls and any lent bytes for the answers
 abbrev pub ServePromise : Type 0
 ServePromise = (n : ℕ) → 0 < n → n ≤ mostCells → (input lent : List ℕ)
-    → ServeTells n input lent (serveInto freshBoard (emptyWords n) input lent)
+    → ServeTells n input lent (serveInto (freshStore n) input lent)
 
 -- so what writes nothing tells nothing, where there are bytes for a call and for an answer
 abbrev pub ServeSpeaks : Type 0

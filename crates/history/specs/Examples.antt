@@ -2,28 +2,24 @@
 -- Assumes nothing.
 use mathlib.Core.Path.{_≡_}
 use mathlib.Core.Bool.{Bool, true, not, _&&_}
-use mathlib.Core.List.{List, [], _∷_, _++_, map}
+use mathlib.Core.List.{List, [], _∷_, _++_}
 use Prim.Native.Nat.{ℕ}
-use lib.Dec.{eqb}
 use Rattle.records.specs.declared.Call.{Call}
 use Rattle.records.specs.declared.Answer.{Answer}
-use Rattle.records.specs.Answers.{numberOf, valueOf}
-use Rattle.steps.specs.Situations.{Turn, _gives_, Situation, firstCommit}
-use Rattle.history.specs.History.{Pair, answeredBy, Ledger, newLedger, note, ledger, fromFresh, OverlappedApart}
+use Rattle.steps.specs.Store.{saidOf}
+use Rattle.steps.specs.Run.{Pair, callsOf}
+use Rattle.steps.specs.Situations.{_gives_, sameSaid, Situation, firstCommit}
+use Rattle.history.specs.History.{Ledger, newLedger, note, ledger, fromFresh, OverlappedApart}
 use Rattle.history.specs.Verdict.{verdict}
-
--- a call and what comes back, as a pair
-abbrev pub pairOf : Turn → Pair
-pairOf t = answeredBy (t .call) (numberOf (t .answer)) (valueOf (t .answer))
 
 -- the situation's history is the one that document 01 tells
 abbrev pub AsTold : Situation → Type 0
-AsTold s = fromFresh (s .cells) (map (λ (t : Turn). t .call) (s .turns)) .pairs ≡ map pairOf (s .turns)
+AsTold s = fromFresh (s .cells) (callsOf (s .pairs)) .pairs ≡ s .pairs
 
 -- TWO THAT OVERLAPPED
 
 -- places 0 and 1 open before either commits. Place 0 writes key 1 and commits, then place 1 writes a key and commits
-abbrev pub writeInTurn : ℕ → List Turn
+abbrev pub writeInTurn : ℕ → List Pair
 writeInTurn key =
     Call.Update 0 1 3 gives Answer.Ok 0
     ∷ Call.Commit 0 gives Answer.Ok 1
@@ -32,46 +28,41 @@ writeInTurn key =
     ∷ []
 
 -- the first to commit began first
-abbrev pub firstBeganFirst : ℕ → List Turn
+abbrev pub firstBeganFirst : ℕ → List Pair
 firstBeganFirst key = Call.Start 0 gives Answer.Ok 1 ∷ Call.Start 1 gives Answer.Ok 2 ∷ writeInTurn key
 
 -- the last to commit began first
-abbrev pub lastBeganFirst : ℕ → List Turn
+abbrev pub lastBeganFirst : ℕ → List Pair
 lastBeganFirst key = Call.Start 1 gives Answer.Ok 1 ∷ Call.Start 0 gives Answer.Ok 2 ∷ writeInTurn key
 
 -- demand 3 does not allow these answers
-abbrev pub SharedKey : List Turn → Type 0
-SharedKey ts = OverlappedApart (map pairOf ts) → ⊥
+abbrev pub SharedKey : List Pair → Type 0
+SharedKey hs = OverlappedApart hs → ⊥
 
 -- CHEATS
 
--- the same number and value
-abbrev pub sameAnswer : Answer → Answer → Bool
-sameAnswer a c = eqb (numberOf a) (numberOf c) && eqb (valueOf a) (valueOf c)
-
 -- every answer is the verdict of the pairs before it
-abbrev pub judged : Ledger → List Turn → Bool
+abbrev pub judged : Ledger → List Pair → Bool
 judged L [] = true
-judged L (t ∷ ts) =
-    sameAnswer (verdict L (t .call)) (t .answer) && judged (note L (t .call) (numberOf (t .answer)) (valueOf (t .answer))) ts
+judged L (h ∷ hs) = sameSaid (saidOf (verdict L (h .call))) (h .said) && judged (note L h) hs
 
 -- a history, the next call, what the cheating store answers, and what is due
 pub record Cheat : Type 0 where
-  pub before : List Turn
+  pub before : List Pair
   pub call : Call
   pub cheating : Answer
   pub right : Answer
 
 -- the history with the cheating answer
 abbrev pub cheated : Cheat → List Pair
-cheated c = map pairOf (c .before) ++ (pairOf (c .call gives c .cheating) ∷ [])
+cheated c = c .before ++ (c .call gives c .cheating ∷ [])
 
 -- nothing was wrong before; the verdict is the right answer, and the cheating one is not
 abbrev pub caught : Cheat → Bool
 caught c =
     judged newLedger (c .before)
-    && sameAnswer (verdict (ledger (map pairOf (c .before))) (c .call)) (c .right)
-    && not (sameAnswer (c .cheating) (c .right))
+    && sameSaid (saidOf (verdict (ledger (c .before)) (c .call))) (saidOf (c .right))
+    && not (sameSaid (saidOf (c .cheating)) (saidOf (c .right)))
 
 -- all of them
 abbrev pub allCaught : List Cheat → Bool
@@ -162,13 +153,13 @@ cheats = viewsAlone ∷ newestAtEachRead ∷ anyOldVersion ∷ firstCellOnly ∷
 -- AXIOMS THAT BIND THE STORE
 
 -- a transaction that reads one key twice and is shown two values breaks Int
-abbrev pub twoValues : List Turn
+abbrev pub twoValues : List Pair
 twoValues = newestAtEachRead .before ++ Call.Read 1 7 gives Answer.Ok 12 ∷ Call.Commit 1 gives Answer.Ok 2 ∷ []
 
 -- one that is shown what nobody wrote breaks Ext
-abbrev pub neverWritten : List Turn
+abbrev pub neverWritten : List Pair
 neverWritten = Call.Start 0 gives Answer.Ok 1 ∷ Call.Read 0 7 gives Answer.Ok 5 ∷ Call.Commit 0 gives Answer.Ok 1 ∷ []
 
 -- and two that overlapped and wrote one key break NoConflict
-abbrev pub oneKey : List Turn
+abbrev pub oneKey : List Pair
 oneKey = lastBeganFirst 1

@@ -8,29 +8,27 @@ use mathlib.Core.List.{List, [], _∷_, _++_}
 use mathlib.Core.Option.{Option, none, some, Option·getD}
 use Prim.Native.Nat.{ℕ, _+_, _≤_, _<_}
 use lib.Dec.{eqb}
-use lib.ListN.{length, getD, take, replicate}
+use lib.ListN.{length, getD, take}
 use Rattle.records.specs.declared.Call.{Call}
 use Rattle.records.specs.declared.Answer.{Answer}
 use Rattle.records.specs.Answers.{numberOf}
 use Rattle.cells.specs.declared.Cell.{Cell}
-use Rattle.cells.specs.Cells.{noCell, cellsOf, wordsOf, ofKey, committed}
+use Rattle.cells.specs.Cells.{noCell, ofKey, committed}
 use Rattle.cells.specs.Rules.{newest}
 use Rattle.steps.specs.declared.State.{State}
-use Rattle.steps.specs.declared.Board.{Board}
-use Rattle.steps.specs.Record.{allPlaces, allKeys, mostCells, freshBoard}
-use Rattle.steps.specs.Step.{step}
+use Rattle.steps.specs.Record.{allPlaces, allKeys, mostCells}
+use Rattle.steps.specs.Store.{Store, Said, saidOf, cellsIn, freshStore}
+use Rattle.steps.specs.Run.{Pair, Run, run}
 
 -- A PAIR
 
--- a call, and the number and value of its answer as document 01's table has them
-pub record Pair : Type 0 where
-  pub call : Call
-  pub number : ℕ
-  pub value : ℕ
+-- the call, answered with the number and value that document 01's table has for the answer
+abbrev pub answeredBy : Call → Answer → Pair
+answeredBy c a = record { call = c; said = saidOf a }
 
--- the call, answered with this number and this value
-abbrev pub answeredBy : Call → ℕ → ℕ → Pair
-answeredBy c n v = record { call = c; number = n; value = v }
+-- what stands where a history has no pair
+abbrev pub noPair : Pair
+noPair = answeredBy (Call.Start 0) (Answer.Ok 0)
 
 -- 0 OK: done
 abbrev pub isOk : ℕ → Bool
@@ -59,7 +57,7 @@ Wrote es k = (v : ℕ) × (lastWrite es k ≡ some v)
 
 -- the transaction at a place: its state, how many calls were answered before its start, how many transactions had committed when it
 -- started, and what it did, the last first
-pub record Run : Type 0 where
+pub record Transaction : Type 0 where
   pub state : State
   pub began : ℕ
   pub seen : ℕ
@@ -73,7 +71,7 @@ pub record Done : Type 0 where
   pub did : List Event
 
 -- an idle place
-abbrev pub nobody : Run
+abbrev pub nobody : Transaction
 nobody = record { state = State.Idle; began = 0; seen = 0; did = [] }
 
 -- what stands where no transaction has committed
@@ -86,7 +84,7 @@ nothing = record { began = 0; ended = 0; seen = 0; did = [] }
 pub record Ledger : Type 0 where
   pub calls : ℕ
   pub starts : ℕ
-  pub at : ℕ → Run
+  pub at : ℕ → Transaction
   pub past : List Done
 
 -- before the first call
@@ -98,41 +96,41 @@ abbrev pub doneAt : Ledger → ℕ → Done
 doneAt L m = getD (L .past) m nothing
 
 -- another transaction at place p
-abbrev pub put : (ℕ → Run) → ℕ → Run → ℕ → Run
+abbrev pub put : (ℕ → Transaction) → ℕ → Transaction → ℕ → Transaction
 put f p r q = cond (eqb q p) r (f q)
 
 -- one more call: the transactions at the places and the committed ones after it
-abbrev pub tick : Ledger → (ℕ → Run) → List Done → Ledger
+abbrev pub tick : Ledger → (ℕ → Transaction) → List Done → Ledger
 tick L f ds = record { calls = L .calls + 1; starts = L .starts; at = f; past = ds }
 
 -- one more call, a start
-abbrev pub opened : Ledger → (ℕ → Run) → Ledger
+abbrev pub opened : Ledger → (ℕ → Transaction) → Ledger
 opened L f = record { calls = L .calls + 1; starts = L .starts + 1; at = f; past = L .past }
 
 -- the transaction that a start begins
-abbrev pub begun : Ledger → Run
+abbrev pub begun : Ledger → Transaction
 begun L = record { state = State.Open; began = L .calls; seen = length (L .past); did = [] }
 
 -- a transaction in another state
-abbrev pub turned : State → Run → Run
+abbrev pub turned : State → Transaction → Transaction
 turned s r = record { state = s; began = r .began; seen = r .seen; did = r .did }
 
 -- a transaction that did one thing more
-abbrev pub doing : Event → Run → Run
+abbrev pub doing : Event → Transaction → Transaction
 doing e r = record { state = r .state; began = r .began; seen = r .seen; did = e ∷ r .did }
 
 -- a transaction that commits
-abbrev pub ended : Ledger → Run → Done
+abbrev pub ended : Ledger → Transaction → Done
 ended L r = record { began = r .began; ended = L .calls; seen = r .seen; did = r .did }
 
--- an accepted call, answered with the value v
-unfoldable pub accept : Ledger → Call → ℕ → Ledger
-accept L (Call.Start p) v = opened L (put (L .at) p (begun L))
-accept L (Call.Read p k) v = tick L (put (L .at) p (doing (read k v) (L .at p))) (L .past)
-accept L (Call.Update p k new) v = tick L (put (L .at) p (doing (write k new) (L .at p))) (L .past)
-accept L (Call.Prepare p) v = tick L (put (L .at) p (turned State.Prepared (L .at p))) (L .past)
-accept L (Call.Commit p) v = tick L (put (L .at) p nobody) (L .past ++ (ended L (L .at p) ∷ []))
-accept L (Call.Rollback p) v = tick L (put (L .at) p nobody) (L .past)
+-- an accepted call, and what was said to it
+unfoldable pub accept : Ledger → Call → Said → Ledger
+accept L (Call.Start p) s = opened L (put (L .at) p (begun L))
+accept L (Call.Read p k) s = tick L (put (L .at) p (doing (read k (s .value)) (L .at p))) (L .past)
+accept L (Call.Update p k new) s = tick L (put (L .at) p (doing (write k new) (L .at p))) (L .past)
+accept L (Call.Prepare p) s = tick L (put (L .at) p (turned State.Prepared (L .at p))) (L .past)
+accept L (Call.Commit p) s = tick L (put (L .at) p nobody) (L .past ++ (ended L (L .at p) ∷ []))
+accept L (Call.Rollback p) s = tick L (put (L .at) p nobody) (L .past)
 
 -- a refused call leaves no trace; only CONFLICT, which an update meets, sets one state to spoiled
 unfoldable pub refuse : Ledger → Call → ℕ → Ledger
@@ -144,14 +142,14 @@ refuse L (Call.Prepare p) n = tick L (L .at) (L .past)
 refuse L (Call.Commit p) n = tick L (L .at) (L .past)
 refuse L (Call.Rollback p) n = tick L (L .at) (L .past)
 
--- one more pair: a call, its answer's number and value
-abbrev pub note : Ledger → Call → ℕ → ℕ → Ledger
-note L c n v = cond (isOk n) (accept L c v) (refuse L c n)
+-- one more pair
+abbrev pub note : Ledger → Pair → Ledger
+note L h = cond (isOk (h .said .number)) (accept L (h .call) (h .said)) (refuse L (h .call) (h .said .number))
 
 -- the pairs one after the other
 unfoldable pub ledgerFrom : Ledger → List Pair → Ledger
 ledgerFrom L [] = L
-ledgerFrom L (h ∷ hs) = ledgerFrom (note L (h .call) (h .number) (h .value)) hs
+ledgerFrom L (h ∷ hs) = ledgerFrom (note L h) hs
 
 -- the ledger of a history
 abbrev pub ledger : List Pair → Ledger
@@ -170,27 +168,9 @@ leave ds k = leaveFrom (λ j. 0) ds k
 
 -- A RUN
 
--- n empty cells: every word 0
-abbrev pub emptyWords : ℕ → List ℕ
-emptyWords n = wordsOf (replicate n noCell)
-
--- what a sequence of calls comes to: the pairs, the last record and the last words
-pub record Play : Type 0 where
-  pub pairs : List Pair
-  pub board : Board
-  pub words : List ℕ
-
--- any sequence of calls, the board passed on untouched between them
-unfoldable pub run : Board → List ℕ → List Call → Play
-run b ws [] = record { pairs = []; board = b; words = ws }
-run b ws (c ∷ cs) =
-    let o = step b ws c in
-    let later = run (o .board) (o .words) cs in
-    record { pairs = answeredBy c (o .number) (o .value) ∷ later .pairs; board = later .board; words = later .words }
-
--- take a fresh board of n cells
-abbrev pub fromFresh : ℕ → List Call → Play
-fromFresh n cs = run freshBoard (emptyWords n) cs
+-- take a fresh board of n cells and any sequence of calls, the board passed on untouched between them
+abbrev pub fromFresh : ℕ → List Call → Run
+fromFresh n cs = run (freshStore n) cs
 
 -- DEMAND 3
 
@@ -201,7 +181,7 @@ sees L p k = Option·getD (lastWrite (L .at p .did) k) (leave (take (L .at p .se
 
 -- each read answered shows what it sees
 abbrev pub ReadsRight : List Pair → Type 0
-ReadsRight hs = (before after : List Pair) (p k v : ℕ) → hs ≡ before ++ (answeredBy (Call.Read p k) 0 v ∷ after)
+ReadsRight hs = (before after : List Pair) (p k v : ℕ) → hs ≡ before ++ (answeredBy (Call.Read p k) (Answer.Ok v) ∷ after)
     → v ≡ sees (ledger before) p k
 
 -- two committed transactions overlapped if each started before the other committed
@@ -229,28 +209,28 @@ Contested L p k =
 
 -- an update that gets as far as the conflict test is refused for conflict exactly when the key is contested
 abbrev pub ConflictsExact : List Pair → Type 0
-ConflictsExact hs = (before after : List Pair) (p k new n v : ℕ) → hs ≡ before ++ (answeredBy (Call.Update p k new) n v ∷ after)
-    → Reaches (ledger before) p k
-    → (n ≡ numberOf Answer.Conflict) ↔ Contested (ledger before) p k
+ConflictsExact hs = (before after : List Pair) (p k new : ℕ) (s : Said)
+    → hs ≡ before ++ (record { call = Call.Update p k new; said = s } ∷ after) → Reaches (ledger before) p k
+    → (s .number ≡ numberOf Answer.Conflict) ↔ Contested (ledger before) p k
 
 -- a committed cell of the key
 abbrev pub versionOf : ℕ → Cell → Bool
 versionOf k c = ofKey k c && committed c
 
 -- what a board holds for a key: the value in its committed cell with the greatest commit number; if there is none, 0
-abbrev pub holds : List ℕ → ℕ → ℕ
-holds ws k = newest (versionOf k) noCell (cellsOf ws) .value
+abbrev pub holds : Store → ℕ → ℕ
+holds st k = newest (versionOf k) noCell (cellsIn st) .value
 
 -- the last board holds, for each key, what the committed ones leave in commit order
-abbrev pub LastHolds : List Pair → List ℕ → Type 0
-LastHolds hs ws = (k : ℕ) → holds ws k ≡ leave (ledger hs .past) k
+abbrev pub LastHolds : List Pair → Store → Type 0
+LastHolds hs st = (k : ℕ) → holds st k ≡ leave (ledger hs .past) k
 
 -- all four sentences, of what a sequence of calls comes to
-pub record Demand3 (played : Play) : Type 0 where
-  pub reads : ReadsRight (played .pairs)
-  pub apart : OverlappedApart (played .pairs)
-  pub conflicts : ConflictsExact (played .pairs)
-  pub final : LastHolds (played .pairs) (played .words)
+pub record Demand3 (r : Run) : Type 0 where
+  pub reads : ReadsRight (r .pairs)
+  pub apart : OverlappedApart (r .pairs)
+  pub conflicts : ConflictsExact (r .pairs)
+  pub final : LastHolds (r .pairs) (r .store)
 
 -- for every number of cells from 1 to 1,024 and every list of calls
 abbrev pub Statement : Type 0

@@ -3,7 +3,7 @@
 -- Assumes nothing.
 use mathlib.Core.Path.{_≡_}
 use mathlib.Core.Logic.{_⊎_, _↔_}
-use mathlib.Core.Bool.{Bool, true, false, not, _&&_, _||_}
+use mathlib.Core.Bool.{Bool, true, false, cond, not, _&&_, _||_}
 use mathlib.Core.List.{List, _∷_, _++_}
 use mathlib.Core.Option.{Option, none, some}
 use Prim.Native.Nat.{ℕ, zero, suc, _+_, _≤_, _<_}
@@ -11,11 +11,13 @@ use lib.Dec.{leb, eqb}
 use lib.ListN.{length, take}
 use Rattle.records.specs.declared.Call.{Call}
 use Rattle.records.specs.declared.Answer.{Answer}
-use Rattle.records.specs.Answers.{numberOf, valueOf, placeOf}
+use Rattle.records.specs.Answers.{numberOf, placeOf}
 use Rattle.steps.specs.declared.State.{State}
 use Rattle.steps.specs.Record.{allPlaces, mostCells, isPrepared}
-use Rattle.steps.specs.Check.{refuseIf, givenPlace, placeCheck}
-use Rattle.history.specs.History.{Pair, Event, lastWrite, Wrote, Ledger, doneAt, ledger, leave, Reaches, fromFresh}
+use Rattle.steps.specs.Check.{checkOf, factsOf}
+use Rattle.steps.specs.Store.{saidOf}
+use Rattle.steps.specs.Run.{Pair}
+use Rattle.history.specs.History.{Event, lastWrite, Wrote, Ledger, doneAt, ledger, leave, Reaches, fromFresh}
 
 -- THE VERDICT
 
@@ -43,9 +45,13 @@ contested L p k =
 abbrev pub hidden : Ledger → ℕ → Bool
 hidden L k = anyBelow allPlaces (λ q. isPrepared (L .at q .state) && wroteKey (L .at q .did) k)
 
--- checks 2 to 8 of document 01's table, on the state that the ledger has for the place (1 BOARD is never given here)
+-- the checks in their order, on a board in shape and the state that the ledger has for the place
 abbrev pub checksOf : Ledger → Call → Answer
-checksOf L c = refuseIf (givenPlace c) Answer.Place (placeCheck (L .at (placeOf c) .state) (L .starts) c)
+checksOf L c = checkOf (factsOf true (L .at (placeOf c) .state) (L .starts) c)
+
+-- the refusal where the test holds, otherwise what comes next
+abbrev pub refuseIf : Bool → Answer → Answer → Answer
+refuseIf t refusal later = cond t refusal later
 
 -- the own last write, or else what comes next
 abbrev pub orElse : Option ℕ → (ℕ → Answer) → Answer → Answer
@@ -106,7 +112,7 @@ pub record Packed (n : ℕ) (L : Ledger) : Type 0 where
 
 -- the pair's answer is this one
 abbrev pub Answers : Pair → Answer → Type 0
-Answers h a = (h .number ≡ numberOf a) × (h .value ≡ valueOf a)
+Answers h a = h .said ≡ saidOf a
 
 -- the answer is the verdict; or it is FULL, at an update that needs a cell
 abbrev pub Right : Ledger → Pair → Type 0
@@ -121,10 +127,10 @@ AllRight = (n : ℕ) → 0 < n → n ≤ mostCells → (calls : List Call) (befo
 abbrev pub FullRight : Type 0
 FullRight = (n : ℕ) → 0 < n → n ≤ mostCells → (calls : List Call) (before after : List Pair) (h : Pair)
     → fromFresh n calls .pairs ≡ before ++ (h ∷ after) → NeedsCell (ledger before) (h .call)
-    → (h .number ≡ numberOf Answer.Full) ↔ Packed n (ledger before)
+    → (h .said .number ≡ numberOf Answer.Full) ↔ Packed n (ledger before)
 
 -- so a ledger and the number of cells decide every answer
 abbrev pub Decided : Type 0
 Decided = (n : ℕ) → 0 < n → n ≤ mostCells → (calls calls′ : List Call) (before after before′ after′ : List Pair) (h h′ : Pair)
     → fromFresh n calls .pairs ≡ before ++ (h ∷ after) → fromFresh n calls′ .pairs ≡ before′ ++ (h′ ∷ after′)
-    → ledger before ≡ ledger before′ → h .call ≡ h′ .call → (h .number ≡ h′ .number) × (h .value ≡ h′ .value)
+    → ledger before ≡ ledger before′ → h .call ≡ h′ .call → h .said ≡ h′ .said

@@ -12,11 +12,12 @@ use native.Mathlib.Omega.{arith}
 use lib.ListN.{length, getD}
 use Rattle.records.specs.declared.Call.{Call}
 use Rattle.records.specs.declared.CallRead.{CallRead}
-use Rattle.steps.specs.declared.Board.{Board}
 use Rattle.steps.specs.Record.{allPlaces, freshBoard}
-use Rattle.steps.specs.Step.{Outcome, step}
+use Rattle.steps.specs.Store.{Store, lent, freshStore}
+use Rattle.steps.specs.Step.{step}
+use Rattle.steps.specs.Run.{Pair, Run, pairOf, run}
 use Rattle.steps.proofs.Keeps.{keeps-lengths}
-use Rattle.history.specs.History.{Pair, answeredBy, Play, emptyWords, run, fromFresh, Demand3}
+use Rattle.history.specs.History.{fromFresh, Demand3}
 use Rattle.history.proofs.Basics.{cases}
 use Rattle.history.proofs.Demand.{demand3}
 use Rattle.history.proofs.Judge.{all-right, full-right}
@@ -24,47 +25,43 @@ use Rattle.lane_c.specs.Words.{recordOf, wordsOfRecord}
 use Rattle.lane_c.specs.Call.{callNamed, Crossed, onNamed, laneCall}
 use Rattle.lane_c.proofs.Words.{record-words}
 use Rattle.lane_c.proofs.Kept.{step-on}
-use Rattle.hosts.specs.Calls.{Asked, Got, Called, callsOn, callsFromZeros, callAsked, namedThen, callsAsked, pairThen, pairsGot, playOf}
+use Rattle.hosts.specs.Calls.{Asked, Got, Called, callsOn, callsFromZeros, callAsked, namedThen, callsAsked, pairThen, pairsGot, runOf}
 use Rattle.hosts.specs.Calls.{nothingGot, GotRecord, CallsPromise, NoKind, NoKindNothing, CallsRight, CallsFull}
 use Rattle.hosts.proofs.Fresh.{zero-record, zero-cells, run-full}
 
 -- THE SAME PAIRS, RECORD AND CELLS
 
 -- lane_calls came to what a run of calls comes to
-pub record Same (hs : List Pair) (ws cs : List ℕ) (p : Play) : Type 0 where
-  pub pairs : hs ≡ p .pairs
-  pub words : ws ≡ wordsOfRecord (p .board)
-  pub cells : cs ≡ p .words
+pub record Same (hs : List Pair) (ws cs : List ℕ) (r : Run) : Type 0 where
+  pub pairs : hs ≡ r .pairs
+  pub words : ws ≡ wordsOfRecord (r .store .board)
+  pub cells : cs ≡ r .store .words
 
 -- on the words of a record
 abbrev pub AsRun : List Asked → Type 0
-AsRun asked = (b : Board) (cs : List ℕ) → length (b .places) ≡ allPlaces
-    → let r : Called = callsOn (wordsOfRecord b) cs asked in Same (pairsGot (r .got)) (r .words) (r .cells) (run b cs (callsAsked asked))
+AsRun asked = (st : Store) → length (st .board .places) ≡ allPlaces
+    → let r : Called = callsOn (wordsOfRecord (st .board)) (st .words) asked in
+    Same (pairsGot (r .got)) (r .words) (r .cells) (run st (callsAsked asked))
 
 -- one that gave x, and then others
-abbrev Behind : CallRead → List Asked → Asked → Crossed → Play → Type 0
+abbrev Behind : CallRead → List Asked → Asked → Crossed → Run → Type 0
 Behind read more a x p =
     let r : Called = callsOn (x .words) (x .cells) more in
-    Same (pairThen read (record { asked = a; number = x .number; value = x .value }) (pairsGot (r .got))) (r .words) (r .cells) p
+    Same (pairThen read (record { asked = a; said = x .said }) (pairsGot (r .got))) (r .words) (r .cells) p
 
-one : (a : Asked) (more : List Asked) → AsRun more → (read : CallRead) (b : Board) (cs : List ℕ) → length (b .places) ≡ allPlaces
-    → Behind read more a (onNamed read (wordsOfRecord b) cs) (run b cs (namedThen read (callsAsked more)))
+one : (a : Asked) (more : List Asked) → AsRun more → (read : CallRead) (st : Store) → length (st .board .places) ≡ allPlaces
+    → Behind read more a (onNamed read (wordsOfRecord (st .board)) (st .words)) (run st (namedThen read (callsAsked more)))
 unfolding run
-one a more later (CallRead.Good call) b cs full =
-    let o : Outcome = step b cs call in
-    let s = later (o .board) (o .words) (keeps-lengths b cs call .1 ∙ full) in
-    subst (λ (x : Crossed). Behind (CallRead.Good call) more a x (run b cs (call ∷ callsAsked more))) (sym (step-on b cs full call))
-    (record {
-      pairs = ap (λ (hs : List Pair). answeredBy call (o .number) (o .value) ∷ hs) (s .pairs);
-      words = s .words;
-      cells = s .cells;
-    })
-one a more later CallRead.Record b cs full = later b cs full
+one a more later (CallRead.Good call) st full =
+    let s = later (step st call .store) (keeps-lengths st call .1 ∙ full) in
+    subst (λ (x : Crossed). Behind (CallRead.Good call) more a x (run st (call ∷ callsAsked more))) (sym (step-on st full call))
+    (record { pairs = ap (λ (hs : List Pair). pairOf st call ∷ hs) (s .pairs); words = s .words; cells = s .cells })
+one a more later CallRead.Record st full = later st full
 
 pub same : (asked : List Asked) → AsRun asked
 unfolding callsOn callsAsked pairsGot run laneCall
-same [] b cs full = record { pairs = refl; words = refl; cells = refl }
-same (a ∷ more) b cs full = one a more (same more) (callAsked a) b cs full
+same [] st full = record { pairs = refl; words = refl; cells = refl }
+same (a ∷ more) st full = one a more (same more) (callAsked a) st full
 
 each-asked : (asked : List Asked) (ws cs : List ℕ) → map (λ (g : Got). g .asked) (callsOn ws cs asked .got) ≡ asked
 unfolding callsOn
@@ -81,34 +78,34 @@ got-record : (asked : List Asked) (ws cs : List ℕ) (i : ℕ) → i < length as
 unfolding callsOn
 got-record [] ws cs i h = absurd (not-suc-le-zero h)
 got-record (a ∷ more) ws cs zero h =
-    λ e. let x = no-kind-nothing ws cs a e in (ap (λ (c : Crossed). c .number) x, ap (λ (c : Crossed). c .value) x)
+    λ e. ap (λ (c : Crossed). c .said) (no-kind-nothing ws cs a e)
 got-record (a ∷ more) ws cs (suc i) h = got-record more _ _ i (le-of-suc-le-suc h)
 
 -- FROM ZERO WORDS
 module _ (n : ℕ) (asked : List Asked) where
-  zeros : callsFromZeros n asked ≡ callsOn (wordsOfRecord freshBoard) (emptyWords n) asked
+  zeros : callsFromZeros n asked ≡ callsOn (wordsOfRecord freshBoard) (freshStore n .words) asked
   zeros = λ i. callsOn (zero-record i) (zero-cells n i) asked
 
-  fresh-words : callsFromZeros n asked .words ≡ wordsOfRecord (fromFresh n (callsAsked asked) .board)
-  fresh-words = ap (λ (r : Called). r .words) zeros ∙ same asked freshBoard (emptyWords n) refl .words
+  fresh-words : callsFromZeros n asked .words ≡ wordsOfRecord (fromFresh n (callsAsked asked) .store .board)
+  fresh-words = ap (λ (r : Called). r .words) zeros ∙ same asked (freshStore n) refl .words
 
-  fresh-play : playOf (callsFromZeros n asked) ≡ fromFresh n (callsAsked asked)
-  fresh-play =
-      let p : Play = fromFresh n (callsAsked asked) in
-      let s = same asked freshBoard (emptyWords n) refl in
-      let board : recordOf (callsFromZeros n asked .words) ≡ p .board =
-      ap recordOf fresh-words ∙ record-words (p .board) (run-full (callsAsked asked) freshBoard (emptyWords n) refl) in
+  fresh-run : runOf (callsFromZeros n asked) ≡ fromFresh n (callsAsked asked)
+  fresh-run =
+      let p : Run = fromFresh n (callsAsked asked) in
+      let s = same asked (freshStore n) refl in
+      let board : recordOf (callsFromZeros n asked .words) ≡ p .store .board =
+      ap recordOf fresh-words ∙ record-words (p .store .board) (run-full (freshStore n) (callsAsked asked) refl) in
       let pairs : pairsGot (callsFromZeros n asked .got) ≡ p .pairs = ap (λ (r : Called). pairsGot (r .got)) zeros ∙ s .pairs in
-      let cells : callsFromZeros n asked .cells ≡ p .words = ap (λ (r : Called). r .cells) zeros ∙ s .cells in
-      λ i. record { pairs = pairs i; board = board i; words = cells i }
+      let cells : callsFromZeros n asked .cells ≡ p .store .words = ap (λ (r : Called). r .cells) zeros ∙ s .cells in
+      λ i. record { pairs = pairs i; store = lent (board i) (cells i) }
 
 pub calls-tell : CallsPromise
 calls-tell n h l asked =
     record {
       each = each-asked asked _ _;
-      history = fresh-play n asked;
+      history = fresh-run n asked;
       words = fresh-words n asked;
-      demand3 = subst Demand3 (sym (fresh-play n asked)) (demand3 n h l (callsAsked asked));
+      demand3 = subst Demand3 (sym (fresh-run n asked)) (demand3 n h l (callsAsked asked));
       others = got-record asked _ _;
     }
 
@@ -136,7 +133,7 @@ no-kind a = go (a .kind)
 -- EVERY ANSWER
 
 pub calls-right : CallsRight
-calls-right n h l asked before after x e = all-right n h l (callsAsked asked) before after x (sym (ap (λ (p : Play). p .pairs) (fresh-play n asked)) ∙ e)
+calls-right n h l asked before after x e = all-right n h l (callsAsked asked) before after x (sym (ap (λ (p : Run). p .pairs) (fresh-run n asked)) ∙ e)
 
 pub calls-full : CallsFull
-calls-full n h l asked before after x e = full-right n h l (callsAsked asked) before after x (sym (ap (λ (p : Play). p .pairs) (fresh-play n asked)) ∙ e)
+calls-full n h l asked before after x e = full-right n h l (callsAsked asked) before after x (sym (ap (λ (p : Run). p .pairs) (fresh-run n asked)) ∙ e)

@@ -11,27 +11,27 @@ use lib.ListN.{length}
 use Rattle.records.specs.declared.Call.{Call}
 use Rattle.records.specs.declared.CallRead.{CallRead}
 use Rattle.records.specs.declared.Reply.{Reply}
-use Rattle.steps.specs.declared.Board.{Board}
 use Rattle.steps.specs.Record.{allPlaces}
-use Rattle.steps.specs.Step.{Outcome, step}
+use Rattle.steps.specs.Store.{Store}
+use Rattle.steps.specs.Step.{step}
+use Rattle.steps.specs.Run.{Run, pairOf, run}
 use Rattle.steps.proofs.Keeps.{keeps-lengths}
 use Rattle.steps.proofs.Tests.{two}
-use Rattle.lanes.specs.Serve.{replyTo, runOf, recordsOf}
-use Rattle.history.specs.History.{Play, run}
+use Rattle.lanes.specs.Serve.{replyTo, repliesOf, recordsOf}
 use Rattle.history.specs.Bytes.{metNoCall}
 use Rattle.history.proofs.Basics.{cases, clash}
 use Rattle.history.proofs.Bytes.{recordIf}
 use Rattle.lane_c.specs.Words.{recordOf, wordsOfRecord, wellFormed}
-use Rattle.lane_c.specs.Call.{Crossed, outcomeWords, onNamed, laneCall}
+use Rattle.lane_c.specs.Call.{Crossed, storeOf, outcomeWords, onNamed, laneCall}
 use Rattle.lane_c.specs.Serve.{Handed}
-use Rattle.lane_c.proofs.Words.{length-places, well-length, words-record}
+use Rattle.lane_c.proofs.Words.{length-places, words-record}
 use Rattle.lane_c.proofs.Serves.{serve-board}
 use Rattle.lane_c.proofs.Kept.{step-on, serve-on}
 use Rattle.hosts.specs.Calls.{Asked, callOn, Called, callsOn, callAsked, callsAsked}
 use Rattle.hosts.specs.Serves.{Lent, serveOn, Held, callsTried}
 use Rattle.hosts.specs.Mixed.{askFor, asksFor, replyGot, IsCalls, ServeIsCalls, byCall, byServe, deedsOn, asksOf, MixedIsCalls}
 use Rattle.hosts.proofs.Calls.{same}
-use Rattle.hosts.proofs.Serves.{served-board, served-words, served-bytes}
+use Rattle.hosts.proofs.Serves.{served-store, served-bytes}
 
 -- the words after lane_calls
 abbrev kept : Called → Held
@@ -54,37 +54,40 @@ asks-back [] = refl
 asks-back (c ∷ cs) = rw (asked-back c) (ap (λ (l : List Call). c ∷ l) (asks-back cs))
 
 -- asked for a call, lane_call does its step
-call-step : (b : Board) (cs : List ℕ) → length (b .places) ≡ allPlaces → (c : Call)
-    → callOn (wordsOfRecord b) cs (askFor c) ≡ outcomeWords (step b cs c)
+call-step : (st : Store) → length (st .board .places) ≡ allPlaces → (c : Call)
+    → callOn (wordsOfRecord (st .board)) (st .words) (askFor c) ≡ outcomeWords (step st c)
 unfolding laneCall
-call-step b cs full c = ap (λ (r : CallRead). onNamed r (wordsOfRecord b) cs) (asked-back c) ∙ step-on b cs full c
+call-step st full c =
+    ap (λ (r : CallRead). onNamed r (wordsOfRecord (st .board)) (st .words)) (asked-back c) ∙ step-on st full c
 
 -- what the calls gave is what a run of them replies
-got-replies : (calls : List Call) (b : Board) (cs : List ℕ) → length (b .places) ≡ allPlaces
-    → map replyGot (callsOn (wordsOfRecord b) cs (map askFor calls) .got) ≡ runOf b cs calls .replies
-unfolding callsOn runOf
-got-replies [] b cs full = refl
-got-replies (c ∷ calls) b cs full =
-    let o : Outcome = step b cs c in
-    ap (λ (x : Crossed). replyGot (record { asked = askFor c; number = x .number; value = x .value })
-    ∷ map replyGot (callsOn (x .words) (x .cells) (map askFor calls) .got)) (call-step b cs full c)
-    ∙ ap (λ (rs : List Reply). replyTo c o ∷ rs) (got-replies calls (o .board) (o .words) (keeps-lengths b cs c .1 ∙ full))
+got-replies : (calls : List Call) (st : Store) → length (st .board .places) ≡ allPlaces
+    → map replyGot (callsOn (wordsOfRecord (st .board)) (st .words) (map askFor calls) .got) ≡ repliesOf (run st calls)
+unfolding callsOn run
+got-replies [] st full = refl
+got-replies (c ∷ calls) st full =
+    ap (λ (x : Crossed). replyGot (record { asked = askFor c; said = x .said })
+    ∷ map replyGot (callsOn (x .words) (x .cells) (map askFor calls) .got)) (call-step st full c)
+    ∙ ap (λ (rs : List Reply). replyTo (pairOf st c) ∷ rs) (got-replies calls (step st c .store) (keeps-lengths st c .1 ∙ full))
 
-module _ (b : Board) (cs : List ℕ) (full : length (b .places) ≡ allPlaces) (l : Lent) where
+module _ (st : Store) (full : length (st .board .places) ≡ allPlaces) (l : Lent) where
+  abbrev ws : List ℕ
+  ws = wordsOfRecord (st .board)
+
   abbrev met : Bool
   met = metNoCall (l .calls) (length (l .answers))
 
-  on-record : IsCalls (wordsOfRecord b) l (serveOn (wordsOfRecord b) cs l) (callsOn (wordsOfRecord b) cs (asksFor l))
+  on-record : IsCalls ws l (serveOn ws (st .words) l) (callsOn ws (st .words) (asksFor l))
   on-record =
-      let s = same (asksFor l) b cs full in
-      let back : run b cs (callsAsked (asksFor l)) ≡ run b cs (callsTried l) = ap (λ (c : List Call). run b cs c) (asks-back (callsTried l)) in
-      subst (λ (x : Handed). IsCalls (wordsOfRecord b) l x (callsOn (wordsOfRecord b) cs (asksFor l)))
-      (sym (serve-on b cs full (l .calls) (l .answers)))
+      let s = same (asksFor l) st full in
+      let back : run st (callsAsked (asksFor l)) ≡ run st (callsTried l) = ap (run st) (asks-back (callsTried l)) in
+      subst (λ (x : Handed). IsCalls ws l x (callsOn ws (st .words) (asksFor l))) (sym (serve-on st full (l .calls) (l .answers)))
       (record {
-        words = ap wordsOfRecord (served-board b cs l) ∙ sym (s .words ∙ ap (λ (p : Play). wordsOfRecord (p .board)) back);
-        cells = served-words b cs l ∙ sym (s .cells ∙ ap (λ (p : Play). p .words) back);
-        answers = λ _. served-bytes b cs l
-            ∙ ap (λ (rs : List Reply). recordsOf rs ++ recordIf met) (sym (got-replies (callsTried l) b cs full));
+        words = ap (λ (x : Store). wordsOfRecord (x .board)) (served-store st l)
+            ∙ sym (s .words ∙ ap (λ (p : Run). wordsOfRecord (p .store .board)) back);
+        cells = ap (λ (x : Store). x .words) (served-store st l) ∙ sym (s .cells ∙ ap (λ (p : Run). p .store .words) back);
+        answers = λ _. served-bytes st l
+            ∙ ap (λ (rs : List Reply). recordsOf rs ++ recordIf met) (sym (got-replies (callsTried l) st full));
       })
 
 -- ON WORDS THAT ARE NO RECORD
@@ -114,12 +117,12 @@ module _ (ws cs : List ℕ) (w : wellFormed ws ≡ false) where
 
 sixteen : (ws : List ℕ) → wellFormed ws ≡ true → length (recordOf ws .places) ≡ allPlaces
 unfolding recordOf
-sixteen ws w = omega (arith, length-places ws, well-length ws w)
+sixteen ws w = length-places ws
 
 pub serve-is-calls : ServeIsCalls
 serve-is-calls ws cs l = cases (two (wellFormed ws))
     (λ w. subst (λ (v : List ℕ). IsCalls v l (serveOn v cs l) (callsOn v cs (asksFor l))) (words-record ws w)
-    (on-record (recordOf ws) cs (sixteen ws w) l))
+    (on-record (storeOf ws cs) (sixteen ws w) l))
     (λ w. on-none ws cs w l)
 
 calls-append : (a b : List Asked) (ws cs : List ℕ)

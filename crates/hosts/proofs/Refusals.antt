@@ -14,13 +14,14 @@ use Rattle.records.specs.declared.CallRead.{CallRead}
 use Rattle.records.specs.Answers.{numberOf, valueOf, placeOf}
 use Rattle.steps.specs.declared.State.{State}
 use Rattle.steps.specs.declared.Board.{Board}
-use Rattle.steps.specs.Record.{placeAt}
-use Rattle.steps.specs.Step.{withPlace, inState, step}
+use Rattle.steps.specs.Record.{placeAt, withPlace, inState}
+use Rattle.steps.specs.Store.{Store}
+use Rattle.steps.specs.Step.{step}
 use Rattle.steps.proofs.Tests.{by-test}
 use Rattle.steps.proofs.Refusals.{ChangesNothing, refusal-changes-nothing}
 use Rattle.steps.proofs.Exact.{never-above}
 use Rattle.lane_c.specs.Words.{stateWordAt, stateWord, recordOf, wordsOfRecord, wellFormed}
-use Rattle.lane_c.specs.Call.{callNamed, Crossed, refusedWith, outcomeWords, stepOnWords, onNamed, laneCall}
+use Rattle.lane_c.specs.Call.{callNamed, Crossed, storeOf, refusedWith, outcomeWords, stepOnWords, onNamed, laneCall}
 use Rattle.lane_c.proofs.Words.{open-inside, open-word, state-set, words-record}
 use Rattle.hosts.specs.Refusals.{LeavesAll, RefusalLeavesAll, FromTheList}
 
@@ -46,21 +47,22 @@ module _ (ws cs : List ℕ) where
     unfolding recordOf
     was-open p o = open-word ws p o
 
-    stepped : (call : Call) → (step (recordOf ws) cs call .number ≡ 0 → ⊥)
-        → LeavesAll ws cs (placeOf call) (outcomeWords (step (recordOf ws) cs call))
+    stepped : (call : Call) → (step (storeOf ws cs) call .said .number ≡ 0 → ⊥)
+        → LeavesAll ws cs (placeOf call) (outcomeWords (step (storeOf ws cs) call))
     stepped call r =
-        let c : ChangesNothing (recordOf ws) cs (placeOf call) (step (recordOf ws) cs call) = refusal-changes-nothing (recordOf ws) cs call r in
+        let c : ChangesNothing (storeOf ws cs) (placeOf call) (step (storeOf ws cs) call) = refusal-changes-nothing (storeOf ws cs) call r in
+        let record-of : Store → List ℕ = λ st. wordsOfRecord (st .board) in
         record {
           value = c .value;
           cells = c .words;
-          words = λ n. ap wordsOfRecord (c .board n) ∙ words-record ws w;
+          words = λ n. ap record-of (c .board n) ∙ words-record ws w;
           was = λ e. was-open (placeOf call) (c .open-before e);
-          spoiled = λ e. ap wordsOfRecord (c .spoiled-after e) ∙ spoiled-words (placeOf call) (c .open-before e);
+          spoiled = λ e. ap record-of (c .spoiled-after e) ∙ spoiled-words (placeOf call) (c .open-before e);
         }
 
   -- a call
   abbrev Leaves : ℕ → Crossed → Type 0
-  Leaves place x = (x .number ≡ 0 → ⊥) → LeavesAll ws cs place x
+  Leaves place x = (x .said .number ≡ 0 → ⊥) → LeavesAll ws cs place x
 
   on-call : (call : Call) → Leaves (placeOf call) (stepOnWords ws cs call)
   on-call call =
@@ -71,10 +73,10 @@ module _ (ws cs : List ℕ) where
   on-none : (place : ℕ) → Leaves place (refusedWith Answer.Record ws cs)
   on-none place _ = plain Answer.Record place (λ e. omega arith) refl
 
-  listed : (read : CallRead) → onNamed read ws cs .number ≤ numberOf Answer.Record
+  listed : (read : CallRead) → onNamed read ws cs .said .number ≤ numberOf Answer.Record
   listed (CallRead.Good call) =
-      by-test (λ (x : Crossed). x .number ≤ numberOf Answer.Record) (wellFormed ws)
-      (λ _. omega (arith, never-above (recordOf ws) cs call))
+      by-test (λ (x : Crossed). x .said .number ≤ numberOf Answer.Record) (wellFormed ws)
+      (λ _. omega (arith, never-above (storeOf ws cs) call))
       (λ _. omega arith)
   listed CallRead.Record = omega arith
 

@@ -6,7 +6,7 @@
 -- Assumes nothing.
 use mathlib.Core.Path.{_≡_, refl, sym, ap, _∙_, subst}
 use mathlib.Core.Bool.{Bool, true}
-use mathlib.Core.List.{List, [], _∷_, _++_, map, append-assoc}
+use mathlib.Core.List.{List, [], _∷_, _++_, append-assoc}
 use Prim.Native.Nat.{ℕ, zero, suc, _+_, _*_, _≤_, _<_}
 use native.Mathlib.Nat.{le-of-suc-le-suc, not-suc-le-zero}
 use native.Mathlib.Omega.{arith}
@@ -15,18 +15,19 @@ use lib.Seq.{take-at, drop-at, getD-append-add}
 use borrow.Author.Tests.{ltb-true}
 use Rattle.records.specs.declared.Call.{Call}
 use Rattle.records.specs.declared.CallRead.{CallRead}
-use Rattle.records.specs.declared.Reply.{Reply}
 use Rattle.records.specs.Format.{callBytes, callFits, callAt, putAt}
-use Rattle.steps.specs.declared.Board.{Board}
-use Rattle.steps.specs.Record.{allPlaces, mostCells, freshBoard}
+use Rattle.steps.specs.Record.{allPlaces, mostCells}
+use Rattle.steps.specs.Store.{Store, freshStore}
+use Rattle.steps.specs.Run.{Pair, Run, run}
+use Rattle.steps.proofs.Run.{run-append, run-length, run-call}
 use Rattle.lanes.specs.declared.Stop.{Stop}
-use Rattle.lanes.specs.Serve.{runOf, recordsOf, tried, Serving, serveFirst, serveOf, serveInto}
-use Rattle.history.specs.History.{Pair, Play, emptyWords, run, fromFresh, Demand3}
-use Rattle.history.specs.Bytes.{noPair, Tells, metNoCall}
+use Rattle.lanes.specs.Serve.{repliesOf, recordsOf, tried, Serving, serveFirst, serveOf, serveInto}
+use Rattle.history.specs.History.{noPair, fromFresh, Demand3}
+use Rattle.history.specs.Bytes.{Tells, metNoCall}
 use Rattle.history.proofs.Demand.{demand3}
-use Rattle.history.proofs.Runs.{noStart, replyOf, run-replies, run-board, run-words, run-length, run-call, run-append}
-use Rattle.history.proofs.Bytes.{calls-stand, calls-end, stands-fit, recordIf, Recorded, told, recorded, front}
+use Rattle.history.proofs.Bytes.{noStart, calls-stand, calls-end, stands-fit, recordIf, Recorded, told, recorded, front}
 use Rattle.lane_c.specs.Words.{recordOf, wordsOfRecord}
+use Rattle.lane_c.specs.Call.{storeOf}
 use Rattle.lane_c.specs.Serve.{whyOf, whyBoard, Handed, servingWords}
 use Rattle.lane_c.proofs.Words.{record-words}
 use Rattle.lane_c.proofs.Kept.{serve-on}
@@ -37,25 +38,21 @@ use Rattle.hosts.proofs.Fresh.{zero-record, zero-cells, run-full}
 -- THE LAST WORDS
 
 -- the words of a run's record and cells
-abbrev heldBy : Play → Held
-heldBy p = record { words = wordsOfRecord (p .board); cells = p .words }
+abbrev heldBy : Run → Held
+heldBy p = record { words = wordsOfRecord (p .store .board); cells = p .store .words }
 
--- serving on a record leaves the record and the words of its run
-pub served-board : (b : Board) (cs : List ℕ) (l : Lent) → serveInto b cs (l .calls) (l .answers) .board ≡ run b cs (callsTried l) .board
+-- serving leaves the store of its run
+pub served-store : (st : Store) (l : Lent) → serveInto st (l .calls) (l .answers) .store ≡ run st (callsTried l) .store
 unfolding serveOf serveFirst
-served-board b cs l = run-board (callsTried l) b cs
-
-pub served-words : (b : Board) (cs : List ℕ) (l : Lent) → serveInto b cs (l .calls) (l .answers) .words ≡ run b cs (callsTried l) .words
-unfolding serveOf serveFirst
-served-words b cs l = run-words (callsTried l) b cs
+served-store st l = refl
 
 -- and writes the answers of its run
-pub served-bytes : (b : Board) (cs : List ℕ) (l : Lent)
-    → take (serveInto b cs (l .calls) (l .answers) .written) (serveInto b cs (l .calls) (l .answers) .answers)
-    ≡ recordsOf (runOf b cs (callsTried l) .replies) ++ recordIf (metNoCall (l .calls) (length (l .answers)))
+pub served-bytes : (st : Store) (l : Lent)
+    → take (serveInto st (l .calls) (l .answers) .written) (serveInto st (l .calls) (l .answers) .answers)
+    ≡ recordsOf (repliesOf (run st (callsTried l))) ++ recordIf (metNoCall (l .calls) (length (l .answers)))
 unfolding serveOf serveFirst
-served-bytes b cs l =
-    front (l .answers) (recordsOf (runOf b cs (callsTried l) .replies) ++ recordIf (metNoCall (l .calls) (length (l .answers))))
+served-bytes st l =
+    front (l .answers) (recordsOf (repliesOf (run st (callsTried l))) ++ recordIf (metNoCall (l .calls) (length (l .answers))))
 
 -- and leaves the bytes past them
 past-answers : (bs rec : List ℕ) → drop (length rec) (putAt bs 0 rec) ≡ drop (length rec) bs
@@ -64,25 +61,24 @@ past-answers bs rec =
     let e : 0 + length rec ≡ length rec = omega arith in
     drop-at rec (drop (0 + length rec) bs) (length rec) refl ∙ ap (λ (k : ℕ). drop k bs) e
 
-served-past : (b : Board) (cs : List ℕ) (l : Lent)
-    → drop (serveInto b cs (l .calls) (l .answers) .written) (serveInto b cs (l .calls) (l .answers) .answers)
-    ≡ drop (serveInto b cs (l .calls) (l .answers) .written) (l .answers)
-served-past b cs l = past-answers (l .answers) (serveOf b cs (l .calls) (length (l .answers)) .answers)
+served-past : (st : Store) (l : Lent)
+    → drop (serveInto st (l .calls) (l .answers) .written) (serveInto st (l .calls) (l .answers) .answers)
+    ≡ drop (serveInto st (l .calls) (l .answers) .written) (l .answers)
+served-past st l = past-answers (l .answers) (serveOf st (l .calls) (length (l .answers)) .answers)
 
 -- one after another they leave the words of the run of all their calls
-all-held : (lent : List Lent) (b : Board) (cs : List ℕ) → length (b .places) ≡ allPlaces
-    → servesOn (wordsOfRecord b) cs lent ≡ heldBy (run b cs (callsLent lent))
+all-held : (lent : List Lent) (st : Store) → length (st .board .places) ≡ allPlaces
+    → servesOn (wordsOfRecord (st .board)) (st .words) lent ≡ heldBy (run st (callsLent lent))
 unfolding servesOn callsLent run
-all-held [] b cs full = refl
-all-held (l ∷ ls) b cs full =
-    let p : Play = run b cs (callsTried l) in
-    ap (λ (x : Handed). servesOn (x .words) (x .cells) ls) (serve-on b cs full (l .calls) (l .answers))
-    ∙ (λ i. servesOn (wordsOfRecord (served-board b cs l i)) (served-words b cs l i) ls)
-    ∙ all-held ls (p .board) (p .words) (run-full (callsTried l) b cs full)
-    ∙ ap heldBy (sym (run-append (callsTried l) (callsLent ls) b cs))
+all-held [] st full = refl
+all-held (l ∷ ls) st full =
+    ap (λ (x : Handed). servesOn (x .words) (x .cells) ls) (serve-on st full (l .calls) (l .answers))
+    ∙ ap (λ (x : Store). servesOn (wordsOfRecord (x .board)) (x .words) ls) (served-store st l)
+    ∙ all-held ls (run st (callsTried l) .store) (run-full st (callsTried l) full)
+    ∙ ap heldBy (sym (run-append st (callsTried l) (callsLent ls)))
 
 held : (n : ℕ) (lent : List Lent) → servesFromZeros n lent ≡ heldBy (historyOf n lent)
-held n lent = (λ i. servesOn (zero-record i) (zero-cells n i) lent) ∙ all-held lent freshBoard (emptyWords n) refl
+held n lent = (λ i. servesOn (zero-record i) (zero-cells n i) lent) ∙ all-held lent (freshStore n) refl
 
 -- THE CALLS LENT
 
@@ -125,23 +121,23 @@ module _ (n : ℕ) (h : 0 < n) (m : n ≤ mostCells) (lent before after : List L
   hs = historyOf n lent .pairs
 
   -- the history before it, and its own part
-  abbrev first : Play
+  abbrev first : Run
   first = historyOf n before
 
-  abbrev own : Play
-  own = run (first .board) (first .words) (callsTried l)
+  abbrev own : Run
+  own = run (first .store) (callsTried l)
 
   -- the three parts of the history
   abbrev rest : List Pair
-  rest = run (own .board) (own .words) (callsLent after) .pairs
+  rest = run (own .store) (callsLent after) .pairs
 
   three : hs ≡ first .pairs ++ (own .pairs ++ rest)
   three =
       let calls : callsLent lent ≡ callsLent before ++ (callsTried l ++ callsLent after) =
       ap callsLent e ∙ lent-append before (l ∷ after) ∙ ap (λ (cs : List Call). callsLent before ++ cs) (lent-next l after) in
       ap (λ (cs : List Call). fromFresh n cs .pairs) calls
-      ∙ ap (λ (p : Play). p .pairs) (run-append (callsLent before) (callsTried l ++ callsLent after) freshBoard (emptyWords n))
-      ∙ ap (λ (p : Play). first .pairs ++ p .pairs) (run-append (callsTried l) (callsLent after) (first .board) (first .words))
+      ∙ ap (λ (p : Run). p .pairs) (run-append (freshStore n) (callsLent before) (callsTried l ++ callsLent after))
+      ∙ ap (λ (p : Run). first .pairs ++ p .pairs) (run-append (first .store) (callsTried l) (callsLent after))
 
   -- its part is the second
   own-part : own .pairs ≡ partOf hs before l
@@ -149,14 +145,14 @@ module _ (n : ℕ) (h : 0 < n) (m : n ≤ mostCells) (lent before after : List L
       sym
       (ap (λ (ps : List Pair). take (length (callsTried l)) (drop (length (callsLent before)) ps)) three
       ∙ ap (λ (ps : List Pair). take (length (callsTried l)) ps)
-      (drop-at (first .pairs) (own .pairs ++ rest) (length (callsLent before)) (run-length (callsLent before) freshBoard (emptyWords n)))
-      ∙ take-at (own .pairs) rest (length (callsTried l)) (run-length (callsTried l) (first .board) (first .words)))
+      (drop-at (first .pairs) (own .pairs ++ rest) (length (callsLent before)) (run-length (freshStore n) (callsLent before)))
+      ∙ take-at (own .pairs) rest (length (callsTried l)) (run-length (first .store) (callsTried l)))
 
   read : (i : ℕ) → i < length (own .pairs) → callAt (l .calls) (callBytes * i) ≡ CallRead.Good (getD (own .pairs) i noPair .call)
   read i g =
-      let many : length (own .pairs) ≡ length (callsTried l) = run-length (callsTried l) (first .board) (first .words) in
+      let many : length (own .pairs) ≡ length (callsTried l) = run-length (first .store) (callsTried l) in
       calls-stand (tried (l .calls) (length (l .answers))) (l .calls) i (omega arith)
-      ∙ ap CallRead.Good (sym (run-call (callsTried l) (first .board) (first .words) i))
+      ∙ ap CallRead.Good (sym (run-call (first .store) (callsTried l) i noPair))
 
   has : (i : ℕ) → i < length (own .pairs) → Recorded (getD (own .pairs) i noPair)
   has i g =
@@ -170,20 +166,18 @@ module _ (n : ℕ) (h : 0 < n) (m : n ≤ mostCells) (lent before after : List L
 
   -- what lane_serve handed back there
   abbrev serving : Serving
-  serving = serveInto (first .board) (first .words) (l .calls) (l .answers)
+  serving = serveInto (first .store) (l .calls) (l .answers)
 
   handed : serveOn (servesFromZeros n before .words) (servesFromZeros n before .cells) l ≡ servingWords serving
   handed =
       ap (λ (k : Held). serveOn (k .words) (k .cells) l) (held n before)
-      ∙ serve-on (first .board) (first .words) (run-full (callsLent before) freshBoard (emptyWords n) refl) (l .calls) (l .answers)
+      ∙ serve-on (first .store) (run-full (freshStore n) (callsLent before) refl) (l .calls) (l .answers)
 
   abbrev met : Bool
   met = metNoCall (l .calls) (length (l .answers))
 
-  own-bytes : take (serving .written) (serving .answers) ≡ recordsOf (map replyOf (own .pairs)) ++ recordIf met
-  own-bytes =
-      served-bytes (first .board) (first .words) l
-      ∙ ap (λ (rs : List Reply). recordsOf rs ++ recordIf met) (run-replies (callsTried l) (first .board) (first .words))
+  own-bytes : take (serving .written) (serving .answers) ≡ recordsOf (repliesOf own) ++ recordIf met
+  own-bytes = served-bytes (first .store) l
 
   took : serving .taken ≡ callBytes * length (callsTried l)
   unfolding serveOf serveFirst
@@ -197,20 +191,20 @@ module _ (n : ℕ) (h : 0 < n) (m : n ≤ mostCells) (lent before after : List L
       (record {
         tells = subst (λ (ps : List Pair). Tells ps (l .calls) bytes met) own-part (told (own .pairs) (l .calls) bytes met read has own-bytes);
         last = λ t. calls-end records (l .calls) .1 (ltb-true (length (callsTried l)) records t);
-        kept = served-past (first .board) (first .words) l;
+        kept = served-past (first .store) l;
         taken = took;
         board = a-record (serving .stop);
       })
 
 pub serves-tell : ServesPromise
 serves-tell n h m lent =
-    let p : Play = historyOf n lent in
-    let words : servesFromZeros n lent .words ≡ wordsOfRecord (p .board) = ap (λ (k : Held). k .words) (held n lent) in
-    let cells : servesFromZeros n lent .cells ≡ p .words = ap (λ (k : Held). k .cells) (held n lent) in
-    let board : recordOf (servesFromZeros n lent .words) ≡ p .board =
-    ap recordOf words ∙ record-words (p .board) (run-full (callsLent lent) freshBoard (emptyWords n) refl) in
-    let same : p ≡ record { pairs = p .pairs; board = recordOf (servesFromZeros n lent .words); words = servesFromZeros n lent .cells } =
-    sym (λ i. record { pairs = p .pairs; board = board i; words = cells i }) in
+    let p : Run = historyOf n lent in
+    let words : servesFromZeros n lent .words ≡ wordsOfRecord (p .store .board) = ap (λ (k : Held). k .words) (held n lent) in
+    let cells : servesFromZeros n lent .cells ≡ p .store .words = ap (λ (k : Held). k .cells) (held n lent) in
+    let board : recordOf (servesFromZeros n lent .words) ≡ p .store .board =
+    ap recordOf words ∙ record-words (p .store .board) (run-full (freshStore n) (callsLent lent) refl) in
+    let same : p ≡ record { pairs = p .pairs; store = storeOf (servesFromZeros n lent .words) (servesFromZeros n lent .cells) } =
+    sym (λ i. record { pairs = p .pairs; store = Rattle.steps.specs.Store.lent (board i) (cells i) }) in
     record {
       told = λ before after l e. one-tells n h m lent before after l e;
       words = words;

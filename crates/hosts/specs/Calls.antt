@@ -10,10 +10,12 @@ use Rattle.records.specs.declared.Answer.{Answer}
 use Rattle.records.specs.declared.CallRead.{CallRead}
 use Rattle.records.specs.Answers.{numberOf}
 use Rattle.steps.specs.Record.{mostCells, freshWords}
-use Rattle.history.specs.History.{Pair, answeredBy, Play, ledger, fromFresh, Demand3}
+use Rattle.steps.specs.Store.{Said, saidOf}
+use Rattle.steps.specs.Run.{Pair, Run}
+use Rattle.history.specs.History.{ledger, fromFresh, Demand3}
 use Rattle.history.specs.Verdict.{NeedsCell, Packed, Right}
-use Rattle.lane_c.specs.Words.{recordWords, recordOf, wordsOfRecord}
-use Rattle.lane_c.specs.Call.{callNamed, Crossed, laneCall}
+use Rattle.lane_c.specs.Words.{recordWords, wordsOfRecord}
+use Rattle.lane_c.specs.Call.{callNamed, Crossed, storeOf, laneCall}
 
 -- WHAT A HOST DOES
 
@@ -27,12 +29,11 @@ pub record Asked : Type 0 where
 -- and what it got back: a number and a value
 pub record Got : Type 0 where
   pub asked : Asked
-  pub number : ℕ
-  pub value : ℕ
+  pub said : Said
 
 -- what stands where nothing was asked
 abbrev pub nothingGot : Got
-nothingGot = record { asked = record { kind = 0; place = 0; key = 0; value = 0 }; number = 0; value = 0 }
+nothingGot = record { asked = record { kind = 0; place = 0; key = 0; value = 0 }; said = saidOf (Answer.Ok 0) }
 
 -- lane_call with these numbers, on the words of a record and of cells
 abbrev pub callOn : List ℕ → List ℕ → Asked → Crossed
@@ -51,7 +52,7 @@ callsOn ws cs (a ∷ more) =
     let x : Crossed = callOn ws cs a in
     let later : Called = callsOn (x .words) (x .cells) more in
     record {
-      got = record { asked = a; number = x .number; value = x .value } ∷ later .got;
+      got = record { asked = a; said = x .said } ∷ later .got;
       words = later .words;
       cells = later .cells;
     }
@@ -78,7 +79,7 @@ callsAsked (a ∷ more) = namedThen (callAsked a) (callsAsked more)
 
 -- the call with what came back, as a pair; a kind that names no call is left out
 abbrev pub pairThen : CallRead → Got → List Pair → List Pair
-pairThen (CallRead.Good call) g hs = answeredBy call (g .number) (g .value) ∷ hs
+pairThen (CallRead.Good call) g hs = record { call = call; said = g .said } ∷ hs
 pairThen CallRead.Record g hs = hs
 
 -- the pairs
@@ -87,22 +88,22 @@ pairsGot [] = []
 pairsGot (g ∷ gs) = pairThen (callAsked (g .asked)) g (pairsGot gs)
 
 -- what the host has in the end: the pairs, the record and the cells
-abbrev pub playOf : Called → Play
-playOf r = record { pairs = pairsGot (r .got); board = recordOf (r .words); words = r .cells }
+abbrev pub runOf : Called → Run
+runOf r = record { pairs = pairsGot (r .got); store = storeOf (r .words) (r .cells) }
 
 -- WHAT IS PROMISED
 
 -- where the kind names no call it got 12 with value 0
 abbrev pub GotRecord : Got → Type 0
-GotRecord g = callAsked (g .asked) ≡ CallRead.Record → (g .number ≡ numberOf Answer.Record) × (g .value ≡ 0)
+GotRecord g = callAsked (g .asked) ≡ CallRead.Record → g .said ≡ saidOf Answer.Record
 
 -- any sequence of lane_calls from zero words tells, kinds that name no call left out, a history on a fresh board of n cells: each call got
 -- what it gets there, and the last words are the record's and the cells'; so it has all that demand 3 says. Those left out got 12
 pub record CallsTell (n : ℕ) (asked : List Asked) : Type 0 where
   pub each : map (λ (g : Got). g .asked) (callsFromZeros n asked .got) ≡ asked
-  pub history : playOf (callsFromZeros n asked) ≡ fromFresh n (callsAsked asked)
-  pub words : callsFromZeros n asked .words ≡ wordsOfRecord (fromFresh n (callsAsked asked) .board)
-  pub demand3 : Demand3 (playOf (callsFromZeros n asked))
+  pub history : runOf (callsFromZeros n asked) ≡ fromFresh n (callsAsked asked)
+  pub words : callsFromZeros n asked .words ≡ wordsOfRecord (fromFresh n (callsAsked asked) .store .board)
+  pub demand3 : Demand3 (runOf (callsFromZeros n asked))
   pub others : (i : ℕ) → i < length asked → GotRecord (getD (callsFromZeros n asked .got) i nothingGot)
 
 -- for every number of cells from 1 to 1,024
@@ -116,7 +117,7 @@ NoKind = (a : Asked) → (callAsked a ≡ CallRead.Record) ↔ ((a .kind ≡ 0) 
 -- on any words they get 12 with value 0, and no word changes
 abbrev pub NoKindNothing : Type 0
 NoKindNothing = (ws cs : List ℕ) (a : Asked) → callAsked a ≡ CallRead.Record
-    → callOn ws cs a ≡ record { number = numberOf Answer.Record; value = 0; words = ws; cells = cs }
+    → callOn ws cs a ≡ record { said = saidOf Answer.Record; words = ws; cells = cs }
 
 -- every pair's answer is the verdict of the pairs before it; or it is FULL, at an update that needs a cell
 abbrev pub CallsRight : Type 0
@@ -127,4 +128,4 @@ CallsRight = (n : ℕ) → 0 < n → n ≤ mostCells → (asked : List Asked) (b
 abbrev pub CallsFull : Type 0
 CallsFull = (n : ℕ) → 0 < n → n ≤ mostCells → (asked : List Asked) (before after : List Pair) (h : Pair)
     → pairsGot (callsFromZeros n asked .got) ≡ before ++ (h ∷ after) → NeedsCell (ledger before) (h .call)
-    → (h .number ≡ numberOf Answer.Full) ↔ Packed n (ledger before)
+    → (h .said .number ≡ numberOf Answer.Full) ↔ Packed n (ledger before)

@@ -29,7 +29,7 @@ asksFor l = map askFor (callsTried l)
 
 -- what lane_call gave, as an answer with the place byte
 abbrev pub replyGot : Got → Reply
-replyGot g = record { place = g .asked .place; answer = answerOf (g .number) (g .value) }
+replyGot g = record { place = g .asked .place; answer = answerOf (g .said .number) (g .said .value) }
 
 -- a lane_serve leaves the words that the lane_calls leave; and where the words are a record, what it writes is what they gave, with
 -- RECORD behind where it met bytes that are no call

@@ -9,9 +9,11 @@ use Rattle.records.specs.declared.Call.{Call}
 use Rattle.records.specs.declared.CallRead.{CallRead}
 use Rattle.records.specs.Format.{callBytes, callAt}
 use Rattle.steps.specs.Record.{mostCells, freshWords}
-use Rattle.history.specs.History.{Pair, Play, fromFresh, Demand3}
+use Rattle.steps.specs.Run.{Pair, Run}
+use Rattle.history.specs.History.{fromFresh, Demand3}
 use Rattle.history.specs.Bytes.{Tells, triedCalls, metNoCall}
-use Rattle.lane_c.specs.Words.{recordWords, recordOf, wordsOfRecord}
+use Rattle.lane_c.specs.Words.{recordWords, wordsOfRecord}
+use Rattle.lane_c.specs.Call.{storeOf}
 use Rattle.lane_c.specs.Serve.{whyBoard, Handed, laneServe}
 
 -- WHAT A HOST DOES
@@ -51,7 +53,7 @@ callsLent [] = []
 callsLent (l ∷ ls) = callsTried l ++ callsLent ls
 
 -- their history on a fresh board of n cells
-abbrev pub historyOf : ℕ → List Lent → Play
+abbrev pub historyOf : ℕ → List Lent → Run
 historyOf n lent = fromFresh n (callsLent lent)
 
 -- its part that falls to one lane_serve, behind others
@@ -75,12 +77,11 @@ pub record ServedTells (hs : List Pair) (before : List Lent) (l : Lent) (x : Han
 pub record ServesTell (n : ℕ) (lent : List Lent) : Type 0 where
   pub told : (before after : List Lent) (l : Lent) → lent ≡ before ++ (l ∷ after)
       → ServedTells (historyOf n lent .pairs) before l (serveOn (servesFromZeros n before .words) (servesFromZeros n before .cells) l)
-  pub words : servesFromZeros n lent .words ≡ wordsOfRecord (historyOf n lent .board)
-  pub cells : servesFromZeros n lent .cells ≡ historyOf n lent .words
+  pub words : servesFromZeros n lent .words ≡ wordsOfRecord (historyOf n lent .store .board)
+  pub cells : servesFromZeros n lent .cells ≡ historyOf n lent .store .words
   pub demand3 : Demand3 (record {
     pairs = historyOf n lent .pairs;
-    board = recordOf (servesFromZeros n lent .words);
-    words = servesFromZeros n lent .cells;
+    store = storeOf (servesFromZeros n lent .words) (servesFromZeros n lent .cells);
   })
 
 -- for every number of cells from 1 to 1,024

@@ -11,9 +11,10 @@ use Rattle.records.specs.declared.CallRead.{CallRead}
 use Rattle.records.specs.Answers.{numberOf, valueOf}
 use Rattle.steps.specs.declared.Board.{Board}
 use Rattle.steps.specs.declared.Answered.{Answered}
+use Rattle.steps.specs.Store.{lent}
 use Rattle.steps.specs.Step.{outcome, step}
 use Rattle.lane_c.specs.Words.{recordOf, wordsOfRecord, wellFormed}
-use Rattle.lane_c.specs.Call.{callNamed, upper, lower, Crossed, crossed, refusedWith, outcomeWords, stepOnWords, onNamed, laneCall}
+use Rattle.lane_c.specs.Call.{callNamed, upper, lower, Crossed, crossed, storeOf, refusedWith, outcomeWords, stepOnWords, onNamed, laneCall}
 
 -- a kind other than 1 to 6 names no call
 pub named-none : (kind place key value : ℕ) → (kind ≡ 1 → ⊥) → (kind ≡ 2 → ⊥) → (kind ≡ 3 → ⊥) → (kind ≡ 4 → ⊥)
@@ -29,7 +30,7 @@ named-none (suc (suc (suc (suc (suc (suc (suc n))))))) p k v a b c d e f = refl
 
 -- the word returned, of an answer's number and value
 crossed-word : (r : ℕ) (a : Answer) (ws cs : List ℕ) → upper r ≡ numberOf a → lower r ≡ valueOf a → crossed r ws cs ≡ refusedWith a ws cs
-crossed-word r a ws cs u l = λ i. record { number = u i; value = l i; words = ws; cells = cs }
+crossed-word r a ws cs u l = λ i. record { said = record { number = u i; value = l i }; words = ws; cells = cs }
 
 module _ (ws cs : List ℕ) where
   -- a kind that names no call, and one that names a call
@@ -47,19 +48,19 @@ module _ (ws cs : List ℕ) where
   -- words that are no record, and words that are one
   module _ (call : Call) where
     step-if : (t : Bool) → wellFormed ws ≡ t
-        → cond t (outcomeWords (step (recordOf ws) cs call)) (refusedWith Answer.Board ws cs) ≡ stepOnWords ws cs call
-    step-if t w = sym (ap (λ (t : Bool). cond t (outcomeWords (step (recordOf ws) cs call)) (refusedWith Answer.Board ws cs)) w)
+        → cond t (outcomeWords (step (storeOf ws cs) call)) (refusedWith Answer.Board ws cs) ≡ stepOnWords ws cs call
+    step-if t w = sym (ap (λ (t : Bool). cond t (outcomeWords (step (storeOf ws cs) call)) (refusedWith Answer.Board ws cs)) w)
 
     pub step-board : (r : ℕ) → wellFormed ws ≡ false → upper r ≡ 1 → lower r ≡ 0 → crossed r ws cs ≡ stepOnWords ws cs call
     step-board r w u l = crossed-word r Answer.Board ws cs u l ∙ step-if false w
 
     pub step-done : (r : ℕ) (b : Board) (done : Answered) (ws' cs' : List ℕ) → wellFormed ws ≡ true → b ≡ recordOf ws
-        → outcome done cs' ≡ step b cs call → ws' ≡ wordsOfRecord (done .board)
+        → outcome done cs' ≡ step (lent b cs) call → ws' ≡ wordsOfRecord (done .board)
         → upper r ≡ numberOf (done .answer) → lower r ≡ valueOf (done .answer) → crossed r ws' cs' ≡ stepOnWords ws cs call
     step-done r b done ws' cs' w e o s u l =
         crossed-word r (done .answer) ws' cs' u l
         ∙ ap (λ (x : List ℕ). refusedWith (done .answer) x cs') s
-        ∙ ap outcomeWords (o ∙ ap (λ (x : Board). step x cs call) e)
+        ∙ ap outcomeWords (o ∙ ap (λ (x : Board). step (lent x cs) call) e)
         ∙ step-if true w
 
 -- two words with the same upper and the same lower 32 bits are the same
@@ -72,6 +73,6 @@ pub call-unique : (ws cs : List ℕ) (kind place key value : ℕ) (r s : ℕ) (w
     → (r ≡ s) × ((ws₁ ≡ ws₂) × (cs₁ ≡ cs₂))
 call-unique ws cs kind place key value r s ws₁ cs₁ ws₂ cs₂ p q =
     let e : crossed r ws₁ cs₁ ≡ crossed s ws₂ cs₂ = p ∙ sym q in (
-      same-word r s (ap (λ (x : Crossed). x .number) e) (ap (λ (x : Crossed). x .value) e),
+      same-word r s (ap (λ (x : Crossed). x .said .number) e) (ap (λ (x : Crossed). x .said .value) e),
       (ap (λ (x : Crossed). x .words) e, ap (λ (x : Crossed). x .cells) e),
     )

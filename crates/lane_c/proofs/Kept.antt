@@ -6,67 +6,63 @@
 -- Assumes nothing.
 use mathlib.Core.Path.{_≡_, refl, ap, _∙_}
 use mathlib.Core.Bool.{Bool, true, cond}
-use mathlib.Core.List.{List, [], _∷_}
+use mathlib.Core.List.{List}
 use Prim.Native.Nat.{ℕ}
-use native.Mathlib.Omega.{arith}
 use lib.ListN.{length}
 use Rattle.records.specs.declared.Answer.{Answer}
 use Rattle.records.specs.declared.Call.{Call}
 use Rattle.records.specs.declared.CallRead.{CallRead}
 use Rattle.steps.specs.declared.Board.{Board}
 use Rattle.steps.specs.Record.{allPlaces}
-use Rattle.steps.specs.Step.{Outcome, step}
+use Rattle.steps.specs.Store.{Store, Outcome, lent}
+use Rattle.steps.specs.Step.{step}
+use Rattle.steps.specs.Run.{run}
 use Rattle.steps.proofs.Keeps.{keeps-lengths}
-use Rattle.lanes.specs.Serve.{callsIn, runOf, tried, serveFirst, serveOf, Serving, serveInto}
+use Rattle.steps.proofs.Run.{run-keeps}
+use Rattle.lanes.specs.Serve.{callsIn, tried, serveFirst, serveOf, Serving, serveInto}
 use Rattle.lane_c.specs.Words.{recordOf, wordsOfRecord, wellFormed}
-use Rattle.lane_c.specs.Call.{callNamed, Crossed, refusedWith, outcomeWords, stepOnWords, onNamed, laneCall}
+use Rattle.lane_c.specs.Call.{callNamed, Crossed, storeOf, refusedWith, outcomeWords, stepOnWords, onNamed, laneCall}
 use Rattle.lane_c.specs.Serve.{whyOf, Handed, servingWords, nothingServed, laneServe}
-use Rattle.lane_c.proofs.Words.{length-places, well-length, record-words, well-words}
+use Rattle.lane_c.proofs.Words.{length-places, record-words, well-words}
 
 -- what is said of a call that was answered, by its record and not by its words
 pub record IsStep (o : Outcome) (x : Crossed) : Type 0 where
-  pub number : x .number ≡ o .number
-  pub value : x .value ≡ o .value
-  pub board : recordOf (x .words) ≡ o .board
-  pub words : x .cells ≡ o .words
+  pub said : x .said ≡ o .said
+  pub store : storeOf (x .words) (x .cells) ≡ o .store
 
 -- the same of call records that were served
 pub record IsServing (s : Serving) (x : Handed) : Type 0 where
   pub taken : x .taken ≡ s .taken
   pub written : x .written ≡ s .written
   pub why : x .why ≡ whyOf (s .stop)
-  pub board : recordOf (x .words) ≡ s .board
-  pub words : x .cells ≡ s .words
+  pub store : storeOf (x .words) (x .cells) ≡ s .store
   pub answers : x .answers ≡ s .answers
 
 -- a run of calls leaves as many words and places as there were
-pub run-lengths : (b : Board) (cs : List ℕ) (calls : List Call)
-    → (length (runOf b cs calls .words) ≡ length cs) × (length (runOf b cs calls .board .places) ≡ length (b .places))
-unfolding runOf
-run-lengths b cs [] = (refl, refl)
-run-lengths b cs (call ∷ calls) =
-    let o = step b cs call in
-    let later = run-lengths (o .board) (o .words) calls in
-    (later .0 ∙ keeps-lengths b cs call .0, later .1 ∙ keeps-lengths b cs call .1)
+pub run-lengths : (st : Store) (calls : List Call)
+    → (length (run st calls .store .words) ≡ length (st .words)) × (length (run st calls .store .board .places) ≡ length (st .board .places))
+run-lengths st calls =
+    run-keeps (λ (s : Store). (length (s .words) ≡ length (st .words)) × (length (s .board .places) ≡ length (st .board .places)))
+    (λ s c e. (keeps-lengths s c .0 ∙ e .0, keeps-lengths s c .1 ∙ e .1)) st calls (refl, refl)
 
 module _ (ws cs : List ℕ) (w : wellFormed ws ≡ true) where
   places : length (recordOf ws .places) ≡ allPlaces
   unfolding recordOf
-  places = omega (arith, length-places ws, well-length ws w)
+  places = length-places ws
 
-  sixteen : (call : Call) → length (step (recordOf ws) cs call .board .places) ≡ allPlaces
-  sixteen call = keeps-lengths (recordOf ws) cs call .1 ∙ places
+  sixteen : (call : Call) → length (step (storeOf ws cs) call .store .board .places) ≡ allPlaces
+  sixteen call = keeps-lengths (storeOf ws cs) call .1 ∙ places
 
-  on-words : (call : Call) → stepOnWords ws cs call ≡ outcomeWords (step (recordOf ws) cs call)
-  on-words call = ap (λ (t : Bool). cond t (outcomeWords (step (recordOf ws) cs call)) (refusedWith Answer.Board ws cs)) w
+  on-words : (call : Call) → stepOnWords ws cs call ≡ outcomeWords (step (storeOf ws cs) call)
+  on-words call = ap (λ (t : Bool). cond t (outcomeWords (step (storeOf ws cs) call)) (refusedWith Answer.Board ws cs)) w
 
   pub call-is-step : (kind place key value : ℕ) (call : Call) → callNamed kind place key value ≡ CallRead.Good call
-      → IsStep (step (recordOf ws) cs call) (laneCall ws cs kind place key value)
+      → IsStep (step (storeOf ws cs) call) (laneCall ws cs kind place key value)
   unfolding laneCall
   call-is-step kind place key value call n =
-      let o = step (recordOf ws) cs call in
+      let o = step (storeOf ws cs) call in
       let e : laneCall ws cs kind place key value ≡ outcomeWords o = ap (λ (c : CallRead). onNamed c ws cs) n ∙ on-words call in
-      rw e (record { number = refl; value = refl; board = record-words (o .board) (sixteen call); words = refl })
+      rw e (record { said = refl; store = ap (λ (b : Board). lent b (o .store .words)) (record-words (o .store .board) (sixteen call)) })
 
   -- as many words, and a record still
   abbrev Keeps : Crossed → Type 0
@@ -74,7 +70,7 @@ module _ (ws cs : List ℕ) (w : wellFormed ws ≡ true) where
 
   kept : (read : CallRead) → Keeps (onNamed read ws cs)
   kept (CallRead.Good call) =
-      rw (on-words call) (well-words (step (recordOf ws) cs call .board) (sixteen call), keeps-lengths (recordOf ws) cs call .0)
+      rw (on-words call) (well-words (step (storeOf ws cs) call .store .board) (sixteen call), keeps-lengths (storeOf ws cs) call .0)
   kept CallRead.Record = (w, refl)
 
   pub call-kept : (kind place key value : ℕ) → Keeps (laneCall ws cs kind place key value)
@@ -82,34 +78,46 @@ module _ (ws cs : List ℕ) (w : wellFormed ws ≡ true) where
   call-kept kind place key value = kept (callNamed kind place key value)
 
   module _ (calls answers : List ℕ) where
-    served : laneServe ws cs calls answers ≡ servingWords (serveInto (recordOf ws) cs calls answers)
+    served : laneServe ws cs calls answers ≡ servingWords (serveInto (storeOf ws cs) calls answers)
     unfolding laneServe
     served =
-        ap (λ (t : Bool). cond t (servingWords (serveInto (recordOf ws) cs calls answers)) (nothingServed ws cs answers)) w
+        ap (λ (t : Bool). cond t (servingWords (serveInto (storeOf ws cs) calls answers)) (nothingServed ws cs answers)) w
 
-    serve-lengths : (length (serveInto (recordOf ws) cs calls answers .words) ≡ length cs)
-        × (length (serveInto (recordOf ws) cs calls answers .board .places) ≡ allPlaces)
+    serve-lengths : (length (serveInto (storeOf ws cs) calls answers .store .words) ≡ length cs)
+        × (length (serveInto (storeOf ws cs) calls answers .store .board .places) ≡ allPlaces)
     unfolding serveOf serveFirst
     serve-lengths =
-        let run = run-lengths (recordOf ws) cs (callsIn (tried calls (length answers)) calls) in
-        (run .0, run .1 ∙ places)
+        let ran = run-lengths (storeOf ws cs) (callsIn (tried calls (length answers)) calls) in
+        (ran .0, ran .1 ∙ places)
 
-    pub serve-is-serving : IsServing (serveInto (recordOf ws) cs calls answers) (laneServe ws cs calls answers)
+    pub serve-is-serving : IsServing (serveInto (storeOf ws cs) calls answers) (laneServe ws cs calls answers)
     serve-is-serving =
-        let s = serveInto (recordOf ws) cs calls answers in
+        let s = serveInto (storeOf ws cs) calls answers in
         rw served
-        (record { taken = refl; written = refl; why = refl; board = record-words (s .board) (serve-lengths .1); words = refl; answers = refl })
+        (record {
+          taken = refl;
+          written = refl;
+          why = refl;
+          store = ap (λ (b : Board). lent b (s .store .words)) (record-words (s .store .board) (serve-lengths .1));
+          answers = refl;
+        })
 
     pub serve-kept : (wellFormed (laneServe ws cs calls answers .words) ≡ true) × (length (laneServe ws cs calls answers .cells) ≡ length cs)
-    serve-kept = rw served (well-words (serveInto (recordOf ws) cs calls answers .board) (serve-lengths .1), serve-lengths .0)
+    serve-kept = rw served (well-words (serveInto (storeOf ws cs) calls answers .store .board) (serve-lengths .1), serve-lengths .0)
 
 -- the words of a record
-module _ (b : Board) (cs : List ℕ) (full : length (b .places) ≡ allPlaces) where
-  pub step-on : (call : Call) → stepOnWords (wordsOfRecord b) cs call ≡ outcomeWords (step b cs call)
-  step-on call =
-      on-words (wordsOfRecord b) cs (well-words b full) call ∙ ap (λ (x : Board). outcomeWords (step x cs call)) (record-words b full)
+module _ (st : Store) (full : length (st .board .places) ≡ allPlaces) where
+  abbrev ws : List ℕ
+  ws = wordsOfRecord (st .board)
 
-  pub serve-on : (calls answers : List ℕ) → laneServe (wordsOfRecord b) cs calls answers ≡ servingWords (serveInto b cs calls answers)
+  store-back : storeOf ws (st .words) ≡ st
+  store-back = ap (λ (b : Board). lent b (st .words)) (record-words (st .board) full)
+
+  pub step-on : (call : Call) → stepOnWords ws (st .words) call ≡ outcomeWords (step st call)
+  step-on call =
+      on-words ws (st .words) (well-words (st .board) full) call ∙ ap (λ (x : Store). outcomeWords (step x call)) store-back
+
+  pub serve-on : (calls answers : List ℕ) → laneServe ws (st .words) calls answers ≡ servingWords (serveInto st calls answers)
   serve-on calls answers =
-      served (wordsOfRecord b) cs (well-words b full) calls answers
-      ∙ ap (λ (x : Board). servingWords (serveInto x cs calls answers)) (record-words b full)
+      served ws (st .words) (well-words (st .board) full) calls answers
+      ∙ ap (λ (x : Store). servingWords (serveInto x calls answers)) store-back

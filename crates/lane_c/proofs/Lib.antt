@@ -1,7 +1,6 @@
 -- Laws for the proofs of this crate, and its theorems.
-pub mod Laws
+pub mod Blocks
 pub mod Words
-pub mod Turns
 pub mod Calls
 pub mod Serves
 pub mod Kept

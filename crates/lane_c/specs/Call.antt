@@ -7,8 +7,8 @@ use lib.ListN.{getD}
 use Rattle.records.specs.declared.Answer.{Answer}
 use Rattle.records.specs.declared.Call.{Call}
 use Rattle.records.specs.declared.CallRead.{CallRead}
-use Rattle.records.specs.Answers.{numberOf, valueOf}
-use Rattle.steps.specs.Step.{Outcome, step}
+use Rattle.steps.specs.Store.{Store, Said, Outcome, lent, saidOf}
+use Rattle.steps.specs.Step.{step}
 use Rattle.lane_c.specs.Words.{recordOf, wordsOfRecord, wellFormed}
 
 -- kind (1 start, 2 read, 3 update, 4 prepare, 5 commit, 6 rollback); key and value are ignored where the kind has none
@@ -31,26 +31,29 @@ lower r = r % 4_294_967_296
 
 -- what comes back: the refusal number and the value, the words of the record, and the words of the cells
 pub record Crossed : Type 0 where
-  pub number : ℕ
-  pub value : ℕ
+  pub said : Said
   pub words : List ℕ
   pub cells : List ℕ
 
 -- the refusal number in the upper and the value in the lower 32 bits
 abbrev pub crossed : ℕ → List ℕ → List ℕ → Crossed
-crossed r ws cs = record { number = upper r; value = lower r; words = ws; cells = cs }
+crossed r ws cs = record { said = record { number = upper r; value = lower r }; words = ws; cells = cs }
 
 -- a refusal that changes nothing
 abbrev pub refusedWith : Answer → List ℕ → List ℕ → Crossed
-refusedWith a ws cs = record { number = numberOf a; value = valueOf a; words = ws; cells = cs }
+refusedWith a ws cs = record { said = saidOf a; words = ws; cells = cs }
 
 -- what a step came to, its record as words
 abbrev pub outcomeWords : Outcome → Crossed
-outcomeWords o = record { number = o .number; value = o .value; words = wordsOfRecord (o .board); cells = o .words }
+outcomeWords o = record { said = o .said; words = wordsOfRecord (o .store .board); cells = o .store .words }
+
+-- the store that words of a record and of cells are
+abbrev pub storeOf : List ℕ → List ℕ → Store
+storeOf ws cs = lent (recordOf ws) cs
 
 -- a record of other than 50 words or with a state word above 3 is 1 BOARD; otherwise the call does its step
 abbrev pub stepOnWords : List ℕ → List ℕ → Call → Crossed
-stepOnWords ws cs call = cond (wellFormed ws) (outcomeWords (step (recordOf ws) cs call)) (refusedWith Answer.Board ws cs)
+stepOnWords ws cs call = cond (wellFormed ws) (outcomeWords (step (storeOf ws cs) call)) (refusedWith Answer.Board ws cs)
 
 -- a kind other than 1 to 6 is 12 RECORD, before anything else
 abbrev pub onNamed : CallRead → List ℕ → List ℕ → Crossed

@@ -6,7 +6,8 @@ use Prim.Native.Nat.{ℕ}
 use Rattle.lanes.specs.declared.Stop.{Stop}
 use Rattle.lanes.specs.Serve.{Serving, serveInto}
 use Rattle.lane_c.specs.declared.LaneServed.{LaneServed}
-use Rattle.lane_c.specs.Words.{recordOf, wordsOfRecord, wellFormed}
+use Rattle.lane_c.specs.Words.{wordsOfRecord, wellFormed}
+use Rattle.lane_c.specs.Call.{storeOf}
 
 -- why it stopped: 0 the end of the whole records, 1 bytes that are no call (RECORD was written), 2 no room for one more answer
 abbrev pub whyOf : Stop → ℕ
@@ -39,8 +40,8 @@ servingWords s =
       taken = s .taken;
       written = s .written;
       why = whyOf (s .stop);
-      words = wordsOfRecord (s .board);
-      cells = s .words;
+      words = wordsOfRecord (s .store .board);
+      cells = s .store .words;
       answers = s .answers;
     }
 
@@ -51,4 +52,4 @@ nothingServed ws cs answers = record { taken = 0; written = 0; why = whyBoard; w
 -- lane_serve
 unfoldable pub laneServe : List ℕ → List ℕ → List ℕ → List ℕ → Handed
 laneServe ws cs calls answers =
-    cond (wellFormed ws) (servingWords (serveInto (recordOf ws) cs calls answers)) (nothingServed ws cs answers)
+    cond (wellFormed ws) (servingWords (serveInto (storeOf ws cs) calls answers)) (nothingServed ws cs answers)

@@ -1,29 +1,34 @@
--- A record as 50 words: how C and Rust hold it.
+-- A record as words: how C and Rust hold it.
 -- Assumes nothing.
 use mathlib.Core.Bool.{Bool, true, _&&_}
-use mathlib.Core.List.{List, [], _∷_, _++_}
-use Prim.Native.Nat.{ℕ, _*_}
+use mathlib.Core.List.{List, [], _∷_, _++_, map, flatMap}
+use Prim.Native.Nat.{ℕ, zero, suc, _+_, _*_}
 use lib.Dec.{eqb, leb}
-use lib.ListN.{length, getD}
+use lib.ListN.{length, getD, take, drop}
 use Rattle.steps.specs.declared.State.{State}
 use Rattle.steps.specs.declared.Place.{Place}
 use Rattle.steps.specs.declared.Board.{Board}
+use Rattle.steps.specs.Record.{allPlaces}
 
--- a record crosses as 50 words
-abbrev pub recordWords : ℕ
-recordWords = 50
+-- how many words a place is
+abbrev pub placeWords : ℕ
+placeWords = 3
 
--- word 3i the state of place i
+-- those of place p stand from here on, its state first
 abbrev pub stateWordAt : ℕ → ℕ
-stateWordAt place = 3 * place
+stateWordAt p = placeWords * p
 
--- word 48 the start count
+-- behind all places the start count
 abbrev pub startsAt : ℕ
-startsAt = 48
+startsAt = placeWords * allPlaces
 
--- word 49 the commit count
+-- behind it the commit count
 abbrev pub commitsAt : ℕ
-commitsAt = 49
+commitsAt = startsAt + 1
+
+-- which is the last of the words that a record is
+abbrev pub recordWords : ℕ
+recordWords = commitsAt + 1
 
 -- state: 0 idle, 1 open, 2 spoiled, 3 prepared
 abbrev pub stateWord : State → ℕ
@@ -36,17 +41,47 @@ stateWord State.Prepared = 3
 abbrev pub stateOf : ℕ → State
 stateOf word = getD (State.Idle ∷ (State.Open ∷ (State.Spoiled ∷ []))) word State.Prepared
 
--- for place i, words 3i (state), 3i + 1 (number), 3i + 2 (view); the words past the last whole place are none's
-unfoldable pub placesOf : List ℕ → List Place
-placesOf [] = []
-placesOf (s ∷ []) = []
-placesOf (s ∷ (n ∷ [])) = []
-placesOf (s ∷ (n ∷ (v ∷ ws))) = record { state = stateOf s; number = n; view = v } ∷ placesOf ws
+-- a place: state, number, view
+abbrev pub wordsOfPlace : Place → List ℕ
+wordsOfPlace p = stateWord (p .state) ∷ (p .number ∷ (p .view ∷ []))
 
--- the words of places
+-- and back
+abbrev pub placeOfWords : List ℕ → Place
+placeOfWords ws = record { state = stateOf (getD ws 0 0); number = getD ws 1 0; view = getD ws 2 0 }
+
+-- words that are a place: no state word above 3
+abbrev pub placeFits : List ℕ → Bool
+placeFits ws = leb (getD ws 0 0) 3
+
+-- the words of place p
+abbrev pub wordsAt : List ℕ → ℕ → List ℕ
+wordsAt ws p = take placeWords (drop (stateWordAt p) ws)
+
+-- so many blocks of so many words, one behind another
+unfoldable pub blocks : ℕ → ℕ → List ℕ → List (List ℕ)
+blocks width zero ws = []
+blocks width (suc n) ws = take width ws ∷ blocks width n (drop width ws)
+
+-- each of them passes a test
+unfoldable pub each : (List ℕ → Bool) → List (List ℕ) → Bool
+each f [] = true
+each f (b ∷ bs) = f b && each f bs
+
+-- a block for each place; the words behind them are none's
+abbrev pub placeBlocks : List ℕ → List (List ℕ)
+placeBlocks ws = blocks placeWords allPlaces ws
+
+-- the places that words are
+unfoldable pub placesOf : List ℕ → List Place
+placesOf ws = map placeOfWords (placeBlocks ws)
+
+-- the words of places, one place behind another
 unfoldable pub wordsOfPlaces : List Place → List ℕ
-wordsOfPlaces [] = []
-wordsOfPlaces (p ∷ ps) = stateWord (p .state) ∷ (p .number ∷ (p .view ∷ wordsOfPlaces ps))
+wordsOfPlaces ps = flatMap wordsOfPlace ps
+
+-- the words of the counts, in their order
+abbrev pub wordsOfCounts : Board → List ℕ
+wordsOfCounts b = b .starts ∷ (b .commits ∷ [])
 
 -- the record that words are
 unfoldable pub recordOf : List ℕ → Board
@@ -54,15 +89,8 @@ recordOf ws = record { places = placesOf ws; starts = getD ws startsAt 0; commit
 
 -- the words of a record
 unfoldable pub wordsOfRecord : Board → List ℕ
-wordsOfRecord b = wordsOfPlaces (b .places) ++ (b .starts ∷ (b .commits ∷ []))
+wordsOfRecord b = wordsOfPlaces (b .places) ++ wordsOfCounts b
 
--- no state word is above 3
-unfoldable pub statesFit : List ℕ → Bool
-statesFit [] = true
-statesFit (s ∷ []) = true
-statesFit (s ∷ (n ∷ [])) = true
-statesFit (s ∷ (n ∷ (v ∷ ws))) = leb s 3 && statesFit ws
-
--- words that are a record: 50 of them, and no state word above 3
+-- words that are a record: as many as a record is, and each place's are a place
 unfoldable pub wellFormed : List ℕ → Bool
-wellFormed ws = eqb (length ws) recordWords && statesFit ws
+wellFormed ws = eqb (length ws) recordWords && each placeFits (placeBlocks ws)

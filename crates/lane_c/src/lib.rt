@@ -1,4 +1,4 @@
-// The lane board for C and Rust: a record crosses as 50 words.
+// The lane board for C and Rust: a record crosses as words.
 use lanes::Stop;
 use records::Answer;
 use records::Call;
@@ -7,11 +7,14 @@ use steps::Board;
 use steps::Place;
 use steps::State;
 ghost use mathlib.Core.Path.{_≡_};
+ghost use Prim.Native.Nat.{_<_};
 ghost use lib.ListN.{length};
 ghost use Rattle.records.specs.Answers.{numberOf, valueOf};
 ghost use Rattle.lane_c.specs.Call.{callNamed, upper, lower, crossed, stepOnWords, laneCall};
 ghost use Rattle.lane_c.specs.Serve.{whyOf, handed, laneServe};
-ghost use Rattle.lane_c.specs.Words.{recordWords, stateWord, stateOf, recordOf, wordsOfRecord, wellFormed};
+ghost use Rattle.steps.specs.Record.{allPlaces};
+ghost use Rattle.lane_c.specs.Words.{placeWords, recordWords, stateWord, stateOf, wordsOfPlace, placeOfWords, placeFits};
+ghost use Rattle.lane_c.specs.Words.{wordsAt, recordOf, wordsOfRecord, wellFormed};
 
 // How far `lane_serve` got: bytes of calls taken, bytes of answers written, and why it stopped.
 #[repr(C)]
@@ -21,17 +24,21 @@ pub struct LaneServed {
     pub why: u32,
 }
 
-// Three words for each of sixteen places, and the two counts.
-const WORDS: usize = 50;
+// How many words a place is.
+const PLACE_WORDS: usize = 3;
 
-const STARTS: usize = 48;
+// Behind the places, the start count and the commit count.
+const STARTS: usize = PLACE_WORDS * Board::PLACES;
 
-const COMMITS: usize = 49;
+const COMMITS: usize = STARTS + 1;
+
+// All words of a record.
+const WORDS: usize = COMMITS + 1;
 
 // What one in the upper 32 bits counts.
 const UPPER: u64 = 4_294_967_296;
 
-// One call on a record held as 50 words: the refusal number in the upper and the value in the lower 32 bits.
+// One call on a record held as words: the refusal number in the upper and the value in the lower 32 bits.
 #[no_mangle]
 pub extern "C" fn lane_call(
     words: &mut [u32],
@@ -49,7 +56,7 @@ pub extern "C" fn lane_call(
     }
 }
 
-// Call records answered one after another, on a record held as 50 words.
+// Call records answered one after another, on a record held as words.
 #[no_mangle]
 pub extern "C" fn lane_serve(
     words: &mut [u32],
@@ -151,7 +158,47 @@ fn state_of(word: u32) -> State
     }
 }
 
-// Whether the words are a record: 50 of them, and no state word above 3.
+// The place of its words.
+fn place_of(block: &[u32]) -> Place
+    requires { ⌜ length (now block) ≡ placeWords ⌝ }
+    ensures { λ r. ⌜ r ≡ placeOfWords (now (block .entry)) ⌝ }
+{
+    Place {
+        number: block[1],
+        view: block[2],
+        state: state_of(block[0]),
+    }
+}
+
+// A place put into its words.
+fn put_place(block: &mut [u32], p: Place)
+    requires { ⌜ length (now block) ≡ placeWords ⌝ }
+    ensures { λ r. ⌜ now (block .exit) ≡ wordsOfPlace p ⌝ }
+{
+    let s = p.state;
+    block[0] = state_word(s);
+    block[1] = p.number;
+    block[2] = p.view;
+}
+
+// Whether words are a place: no state word above 3.
+fn place_fits(block: &[u32]) -> bool
+    requires { ⌜ length (now block) ≡ placeWords ⌝ }
+    ensures { λ r. ⌜ r ≡ placeFits (now (block .entry)) ⌝ }
+{
+    block[0] <= 3
+}
+
+// The words of place i.
+fn words_at(words: &[u32], i: usize) -> &[u32]
+    requires { ⌜ (i < allPlaces) × (length (now words) ≡ recordWords) ⌝ }
+    ensures { λ r. ⌜ (now r ≡ wordsAt (now (words .entry)) i) × (length (now r) ≡ placeWords) ⌝ }
+{
+    let at = PLACE_WORDS * i;
+    &words[at..at + PLACE_WORDS]
+}
+
+// Whether the words are a record: as many as a record is, and each place's are a place.
 fn well_formed(words: &[u32]) -> bool
     ensures { λ r. ⌜ r ≡ wellFormed (now (words .entry)) ⌝ }
 {
@@ -159,8 +206,7 @@ fn well_formed(words: &[u32]) -> bool
         return false;
     }
     for i in 0..Board::PLACES {
-        let at = 3 * i;
-        if 3 < words[at] {
+        if !place_fits(words_at(words, i)) {
             return false;
         }
     }
@@ -175,12 +221,7 @@ fn load(words: &[u32]) -> Board
     let fresh = Board::fresh();
     let mut places = fresh.places;
     for i in 0..Board::PLACES {
-        let at = 3 * i;
-        places[i] = Place {
-            state: state_of(words[at]),
-            number: words[at + 1],
-            view: words[at + 2],
-        };
+        places[i] = place_of(words_at(words, i));
     }
     Board {
         places: places,
@@ -196,11 +237,8 @@ fn save(words: &mut [u32], b: Board)
 {
     for i in 0..Board::PLACES {
         let p = b.places[i];
-        let s = p.state;
-        let at = 3 * i;
-        words[at] = state_word(s);
-        words[at + 1] = p.number;
-        words[at + 2] = p.view;
+        let at = PLACE_WORDS * i;
+        put_place(&mut words[at..at + PLACE_WORDS], p);
     }
     words[STARTS] = b.starts;
     words[COMMITS] = b.commits;

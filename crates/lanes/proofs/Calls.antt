@@ -2,10 +2,10 @@
 --     callsIn-front   calls are read from the records asked for, whatever stands behind them
 --     callsIn-all     where every record was a call, reading goes on behind them
 --     callsIn-stop    where one was none, nothing behind it is read
---     run-append      a run of calls and then another
+--     run-replies     the answers of a run of calls and then another
 -- Assumes nothing.
 use mathlib.Core.Path.{_≡_, refl, sym, ap, _∙_}
-use mathlib.Core.List.{List, [], _∷_, _++_, append-assoc}
+use mathlib.Core.List.{List, [], _∷_, _++_, append-assoc, map-append}
 use Prim.Native.Nat.{ℕ, zero, suc, _+_, _*_, _≤_, _<_, zero-le, suc-le-suc}
 use native.Mathlib.Nat.{zero-add, suc-add, not-suc-le-zero, le-of-suc-le-suc}
 use native.Mathlib.Omega.{arith}
@@ -16,9 +16,10 @@ use Rattle.records.specs.declared.CallRead.{CallRead}
 use Rattle.records.specs.declared.Reply.{Reply}
 use Rattle.records.specs.Format.{callBytes, answerRecord, callAt}
 use Rattle.records.proofs.RoundTrip.{calls}
-use Rattle.steps.specs.declared.Board.{Board}
-use Rattle.steps.specs.Step.{step}
-use Rattle.lanes.specs.Serve.{readThen, callsIn, replyTo, runOf, recordsOf}
+use Rattle.steps.specs.Store.{Store}
+use Rattle.steps.specs.Run.{run}
+use Rattle.steps.proofs.Run.{run-append}
+use Rattle.lanes.specs.Serve.{readThen, callsIn, replyTo, repliesOf, recordsOf}
 
 -- READING
 
@@ -75,25 +76,10 @@ callsIn-stop (suc n) m bs h =
 
 -- RUNNING
 
-pub run-board : (b : Board) (ws : List ℕ) (xs ys : List Call)
-    → runOf b ws (xs ++ ys) .board ≡ runOf (runOf b ws xs .board) (runOf b ws xs .words) ys .board
-unfolding runOf
-run-board b ws [] ys = refl
-run-board b ws (x ∷ xs) ys = run-board (step b ws x .board) (step b ws x .words) xs ys
-
-pub run-words : (b : Board) (ws : List ℕ) (xs ys : List Call)
-    → runOf b ws (xs ++ ys) .words ≡ runOf (runOf b ws xs .board) (runOf b ws xs .words) ys .words
-unfolding runOf
-run-words b ws [] ys = refl
-run-words b ws (x ∷ xs) ys = run-words (step b ws x .board) (step b ws x .words) xs ys
-
-pub run-replies : (b : Board) (ws : List ℕ) (xs ys : List Call)
-    → runOf b ws (xs ++ ys) .replies
-    ≡ runOf b ws xs .replies ++ runOf (runOf b ws xs .board) (runOf b ws xs .words) ys .replies
-unfolding runOf
-run-replies b ws [] ys = refl
-run-replies b ws (x ∷ xs) ys =
-    ap (λ (l : List Reply). replyTo x (step b ws x) ∷ l) (run-replies (step b ws x .board) (step b ws x .words) xs ys)
+pub run-replies : (st : Store) (xs ys : List Call)
+    → repliesOf (run st (xs ++ ys)) ≡ repliesOf (run st xs) ++ repliesOf (run (run st xs .store) ys)
+run-replies st xs ys =
+    ap repliesOf (run-append st xs ys) ∙ map-append replyTo (run st xs .pairs) (run (run st xs .store) ys .pairs)
 
 pub records-append : (xs ys : List Reply) → recordsOf (xs ++ ys) ≡ recordsOf xs ++ recordsOf ys
 unfolding recordsOf

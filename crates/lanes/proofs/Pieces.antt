@@ -1,6 +1,7 @@
 -- The input served in any pieces is the input served whole: `pieces`.
---     piece    one piece: its answers, then what the rest comes to from there
---     roomy    room for all the answers, or more of it, is the same to serving
+--     roomy        room for all the answers, or more of it, is the same to serving
+--     piece        one piece: its answers, then what the rest comes to from there
+--     piece-turn   the same of a turn
 -- Assumes nothing.
 use mathlib.Core.Path.{_≡_, refl, sym, ap, _∙_, subst⁻¹}
 use mathlib.Core.Logic.{⊎-elim}
@@ -15,26 +16,27 @@ use lib.Seq.{drop-append-le}
 use borrow.Author.Tests.{lt-ltb, le-ltb, le-leb, eq-eqb, ne-eqb, eqb-true, eqb-false}
 use Rattle.records.specs.declared.Call.{Call}
 use Rattle.records.specs.Format.{callBytes, answerBytes, answerRecord}
-use Rattle.steps.specs.declared.Board.{Board}
+use Rattle.steps.specs.Store.{Store}
+use Rattle.steps.specs.Run.{Run, run}
 use Rattle.lanes.specs.declared.Stop.{Stop}
-use Rattle.lanes.specs.Serve.{noCall, callsIn, Run, runOf, recordsOf, wholeCalls, tried, refused, Service, serveFirst, serveOf}
-use Rattle.lanes.specs.Desk.{answersTo, deskOf, deskWords, serveAll, atEnd, goesOn, inPieces}
-use Rattle.steps.specs.Record.{freshBoard}
+use Rattle.lanes.specs.Serve.{noCall, callsIn, repliesOf, recordsOf, wholeCalls, tried, refused, Service, serveFirst, serveOf}
+use Rattle.lanes.specs.Desk.{answersTo, deskOf, AtDesk, atFirst, Input, Turning, serveAll, moreAfter, turnOn, atEnd, turnOf, inPieces}
+use Rattle.lanes.specs.Desk.{PiecesPromise}
 use Rattle.lanes.proofs.Calls.{callsIn-front, callsIn-at-most, callsIn-all, callsIn-stop, run-replies, records-append}
 
 -- room for all the answers, or more of it, is the same to serving
 all-tried : (bytes : List ℕ) (room : ℕ) → answerBytes * wholeCalls bytes ≤ room → tried bytes room ≡ wholeCalls bytes
 all-tried bytes room h = omega arith
 
-all-served : (b : Board) (ws bytes : List ℕ) (room : ℕ) → answerBytes * wholeCalls bytes ≤ room
-    → serveOf b ws bytes room ≡ serveFirst (wholeCalls bytes) b ws bytes
+all-served : (st : Store) (bytes : List ℕ) (room : ℕ) → answerBytes * wholeCalls bytes ≤ room
+    → serveOf st bytes room ≡ serveFirst (wholeCalls bytes) st bytes
 unfolding serveOf
-all-served b ws bytes room h = ap (λ (records : ℕ). serveFirst records b ws bytes) (all-tried bytes room h)
+all-served st bytes room h = ap (λ (records : ℕ). serveFirst records st bytes) (all-tried bytes room h)
 
-pub roomy : (b : Board) (ws bytes : List ℕ) (room : ℕ) → answerBytes * wholeCalls bytes ≤ room
-    → serveOf b ws bytes room ≡ serveAll b ws bytes
-roomy b ws bytes room h =
-    all-served b ws bytes room h ∙ sym (all-served b ws bytes (answerBytes * wholeCalls bytes) (omega arith))
+pub roomy : (st : Store) (bytes : List ℕ) (room : ℕ) → answerBytes * wholeCalls bytes ≤ room
+    → serveOf st bytes room ≡ serveAll st bytes
+roomy st bytes room h =
+    all-served st bytes room h ∙ sym (all-served st bytes (answerBytes * wholeCalls bytes) (omega arith))
 
 -- two tests of what is left after the same stretch
 eqb-add : (a x y : ℕ) → eqb (a + x) (a + y) ≡ eqb x y
@@ -88,14 +90,14 @@ cutOff calls input = cond (eqb (callBytes * length calls) (length input)) [] (an
 -- what the input comes to once a piece of it is served
 abbrev afterPiece : List ℕ → List ℕ → Service → List ℕ
 afterPiece bytes more s =
-    s .answers ++ cond (goesOn (s .stop)) (answersTo (s .board) (s .words) (drop (s .taken) bytes ++ more)) []
+    s .answers ++ cond (moreAfter (s .stop)) (answersTo (s .store) (drop (s .taken) bytes ++ more)) []
 
-module _ (b : Board) (ws bytes more : List ℕ) where
+module _ (st : Store) (bytes more : List ℕ) where
   abbrev calls : List Call
   calls = callsOf bytes
 
-  abbrev run : Run
-  run = runOf b ws calls
+  abbrev ran : Run
+  ran = run st calls
 
   cut-same : length calls ≡ wholeCalls bytes
       → cutOff (calls ++ callsOf (leftOf bytes ++ more)) (bytes ++ more) ≡ cutOff (callsOf (leftOf bytes ++ more)) (leftOf bytes ++ more)
@@ -111,11 +113,10 @@ module _ (b : Board) (ws bytes more : List ℕ) where
       ap (λ (u : Bool). cond u [] (answerRecord noCall)) t
 
   served-all : length calls ≡ wholeCalls bytes
-      → serveFirst (wholeCalls bytes) b ws bytes
+      → serveFirst (wholeCalls bytes) st bytes
       ≡ record {
-        board = run .board;
-        words = run .words;
-        answers = recordsOf (run .replies);
+        store = ran .store;
+        answers = recordsOf (repliesOf ran);
         taken = callBytes * wholeCalls bytes;
         stop = Stop.End;
       }
@@ -123,22 +124,20 @@ module _ (b : Board) (ws bytes more : List ℕ) where
   served-all e =
       let good : ltb (length calls) (wholeCalls bytes) ≡ false = le-ltb (length calls) (wholeCalls bytes) (omega arith) in
       let last : leb (wholeCalls bytes) (wholeCalls bytes) ≡ true = le-leb (wholeCalls bytes) (wholeCalls bytes) (omega arith) in
-      let plain : recordsOf (run .replies) ++ refused (length calls) (wholeCalls bytes) ≡ recordsOf (run .replies) =
-      ap (λ (t : Bool). recordsOf (run .replies) ++ cond t (answerRecord noCall) []) good ∙ append-nil (recordsOf (run .replies)) in
+      let plain : recordsOf (repliesOf ran) ++ refused (length calls) (wholeCalls bytes) ≡ recordsOf (repliesOf ran) =
+      ap (λ (t : Bool). recordsOf (repliesOf ran) ++ cond t (answerRecord noCall) []) good ∙ append-nil (recordsOf (repliesOf ran)) in
       λ i. record {
-        board = run .board;
-        words = run .words;
+        store = ran .store;
         answers = plain i;
         taken = callBytes * e i;
         stop = cond (good i) Stop.Record (cond (last i) Stop.End Stop.Room);
       }
 
   served-stop : length calls < wholeCalls bytes
-      → serveFirst (wholeCalls bytes) b ws bytes
+      → serveFirst (wholeCalls bytes) st bytes
       ≡ record {
-        board = run .board;
-        words = run .words;
-        answers = recordsOf (run .replies) ++ answerRecord noCall;
+        store = ran .store;
+        answers = recordsOf (repliesOf ran) ++ answerRecord noCall;
         taken = callBytes * length calls;
         stop = Stop.Record;
       }
@@ -146,86 +145,103 @@ module _ (b : Board) (ws bytes more : List ℕ) where
   served-stop h =
       let bad : ltb (length calls) (wholeCalls bytes) ≡ true = lt-ltb (length calls) (wholeCalls bytes) h in
       λ i. record {
-        board = run .board;
-        words = run .words;
-        answers = recordsOf (run .replies) ++ cond (bad i) (answerRecord noCall) [];
+        store = ran .store;
+        answers = recordsOf (repliesOf ran) ++ cond (bad i) (answerRecord noCall) [];
         taken = callBytes * length calls;
         stop = cond (bad i) Stop.Record (cond (leb (wholeCalls bytes) (wholeCalls bytes)) Stop.End Stop.Room);
       }
 
   piece-all : length calls ≡ wholeCalls bytes
-      → answersTo b ws (bytes ++ more) ≡ afterPiece bytes more (serveFirst (wholeCalls bytes) b ws bytes)
+      → answersTo st (bytes ++ more) ≡ afterPiece bytes more (serveFirst (wholeCalls bytes) st bytes)
   unfolding answersTo
   piece-all e =
       let l : List Call = callsOf (leftOf bytes ++ more) in
-      let replies : recordsOf (runOf b ws (calls ++ l) .replies)
-      ≡ recordsOf (run .replies) ++ recordsOf (runOf (run .board) (run .words) l .replies) =
-      ap recordsOf (run-replies b ws calls l) ∙ records-append (run .replies) (runOf (run .board) (run .words) l .replies) in
-      ap (λ (m : List Call). recordsOf (runOf b ws m .replies) ++ cutOff m (bytes ++ more)) (goes-on bytes more e)
+      let replies : recordsOf (repliesOf (run st (calls ++ l)))
+      ≡ recordsOf (repliesOf ran) ++ recordsOf (repliesOf (run (ran .store) l)) =
+      ap recordsOf (run-replies st calls l) ∙ records-append (repliesOf ran) (repliesOf (run (ran .store) l)) in
+      ap (λ (m : List Call). recordsOf (repliesOf (run st m)) ++ cutOff m (bytes ++ more)) (goes-on bytes more e)
       ∙ (λ i. replies i ++ cut-same e i)
-      ∙ append-assoc (recordsOf (run .replies)) (recordsOf (runOf (run .board) (run .words) l .replies)) (cutOff l (leftOf bytes ++ more))
+      ∙ append-assoc (recordsOf (repliesOf ran)) (recordsOf (repliesOf (run (ran .store) l))) (cutOff l (leftOf bytes ++ more))
       ∙ ap (afterPiece bytes more) (sym (served-all e))
 
   piece-stop : length calls < wholeCalls bytes
-      → answersTo b ws (bytes ++ more) ≡ afterPiece bytes more (serveFirst (wholeCalls bytes) b ws bytes)
+      → answersTo st (bytes ++ more) ≡ afterPiece bytes more (serveFirst (wholeCalls bytes) st bytes)
   unfolding answersTo
   piece-stop h =
       let short : eqb (callBytes * length calls) (length (bytes ++ more)) ≡ false =
       ne-eqb (callBytes * length calls) (length (bytes ++ more)) (λ e. omega (arith, length-append bytes more)) in
-      ap (λ (m : List Call). recordsOf (runOf b ws m .replies) ++ cutOff m (bytes ++ more)) (stops bytes more h)
-      ∙ ap (λ (t : Bool). recordsOf (run .replies) ++ cond t [] (answerRecord noCall)) short
-      ∙ sym (append-nil (recordsOf (run .replies) ++ answerRecord noCall))
+      ap (λ (m : List Call). recordsOf (repliesOf (run st m)) ++ cutOff m (bytes ++ more)) (stops bytes more h)
+      ∙ ap (λ (t : Bool). recordsOf (repliesOf ran) ++ cond t [] (answerRecord noCall)) short
+      ∙ sym (append-nil (recordsOf (repliesOf ran) ++ answerRecord noCall))
       ∙ ap (afterPiece bytes more) (sym (served-stop h))
 
   -- one piece: its answers, then what the rest comes to from there
-  pub piece : answersTo b ws (bytes ++ more) ≡ afterPiece bytes more (serveAll b ws bytes)
+  piece : answersTo st (bytes ++ more) ≡ afterPiece bytes more (serveAll st bytes)
   piece =
       ⊎-elim piece-all piece-stop (eq-or-lt-of-le (callsIn-at-most (wholeCalls bytes) bytes))
-      ∙ ap (afterPiece bytes more) (sym (all-served b ws bytes (answerBytes * wholeCalls bytes) (omega arith)))
+      ∙ ap (afterPiece bytes more) (sym (all-served st bytes (answerBytes * wholeCalls bytes) (omega arith)))
 
 -- what is left of a piece is less than a record
 abbrev LeftShort : List ℕ → Service → Type 0
-LeftShort bytes s = goesOn (s .stop) ≡ true → length (drop (s .taken) bytes) < callBytes
+LeftShort bytes s = moreAfter (s .stop) ≡ true → length (drop (s .taken) bytes) < callBytes
 
-left-short : (b : Board) (ws bytes : List ℕ) → LeftShort bytes (serveAll b ws bytes)
-left-short b ws bytes =
-    subst⁻¹ (LeftShort bytes) (all-served b ws bytes (answerBytes * wholeCalls bytes) (omega arith))
+left-short : (st : Store) (bytes : List ℕ) → LeftShort bytes (serveAll st bytes)
+left-short st bytes =
+    subst⁻¹ (LeftShort bytes) (all-served st bytes (answerBytes * wholeCalls bytes) (omega arith))
     (⊎-elim
-    (λ e. subst⁻¹ (LeftShort bytes) (served-all b ws bytes [] e)
+    (λ e. subst⁻¹ (LeftShort bytes) (served-all st bytes [] e)
     (λ t. omega (arith, length-drop (callBytes * wholeCalls bytes) bytes)))
-    (λ h. subst⁻¹ (LeftShort bytes) (served-stop b ws bytes [] h) (λ t. absurd (false≢true t)))
+    (λ h. subst⁻¹ (LeftShort bytes) (served-stop st bytes [] h) (λ t. absurd (false≢true t)))
     (eq-or-lt-of-le (callsIn-at-most (wholeCalls bytes) bytes)))
+
+-- TURN BY TURN
+
+-- what the rest of the input comes to from there
+abbrev pub restOf : AtDesk → List ℕ → List ℕ
+restOf d input = answersTo (d .store) (d .cut ++ input)
+
+-- a turn on bytes: what it sends, then what the rest comes to if there is more to do
+pub piece-turn : (d : AtDesk) (bytes more : List ℕ) →
+    let t = turnOf d (Input.got bytes) in
+    restOf d (bytes ++ more) ≡ t .sends ++ cond (t .more) (restOf (t .desk) more) []
+unfolding turnOn
+piece-turn d bytes more =
+    ap (answersTo (d .store)) (sym (append-assoc (d .cut) bytes more)) ∙ piece (d .store) (d .cut ++ bytes) more
+
+-- what is cut after a turn that says that there is more to do is less than a record
+pub cut-short : (d : AtDesk) (bytes : List ℕ) →
+    let t = turnOf d (Input.got bytes) in
+    t .more ≡ true → length (t .desk .cut) < callBytes
+unfolding turnOn
+cut-short d bytes m = left-short (d .store) (d .cut ++ bytes) m
+
+-- at the end of the input with less than a record left
+cond-flip : (n : ℕ) → cond (eqb n 0) [] (answerRecord noCall) ≡ cond (eqb 0 n) [] (answerRecord noCall)
+cond-flip zero = refl
+cond-flip (suc n) = ap (λ (t : Bool). cond t [] (answerRecord noCall)) (eqb·suc-zero n ∙ sym (eqb·zero-suc n))
+
+pub ends : (st : Store) (cut : List ℕ) → length cut < callBytes → atEnd (length cut) ≡ answersTo st (cut ++ [])
+unfolding answersTo callsIn run recordsOf
+ends st cut h =
+    let none : wholeCalls cut ≡ 0 = omega arith in
+    cond-flip (length cut)
+    ∙ ap (λ (n : ℕ). recordsOf (repliesOf (run st (callsIn n cut))) ++ cutOff (callsIn n cut) cut) (sym none)
+    ∙ ap (answersTo st) (sym (append-nil cut))
 
 cond-same : (t : Bool) (x y : List ℕ) → (t ≡ true → x ≡ y) → cond t x [] ≡ cond t y []
 cond-same true x y f = f refl
 cond-same false x y f = refl
 
-cond-flip : (n : ℕ) → cond (eqb n 0) [] (answerRecord noCall) ≡ cond (eqb 0 n) [] (answerRecord noCall)
-cond-flip zero = refl
-cond-flip (suc n) = ap (λ (t : Bool). cond t [] (answerRecord noCall)) (eqb·suc-zero n ∙ sym (eqb·zero-suc n))
-
-ends : (b : Board) (ws cut : List ℕ) → length cut < callBytes → atEnd (length cut) ≡ answersTo b ws (cut ++ [])
-unfolding answersTo callsIn runOf recordsOf
-ends b ws cut h =
-    let none : wholeCalls cut ≡ 0 = omega arith in
-    cond-flip (length cut)
-    ∙ ap (λ (n : ℕ). recordsOf (runOf b ws (callsIn n cut) .replies) ++ cutOff (callsIn n cut) cut) (sym none)
-    ∙ ap (answersTo b ws) (sym (append-nil cut))
-
-pub in-pieces : (b : Board) (ws cut : List ℕ) (ps : List (List ℕ)) → length cut < callBytes
-    → inPieces b ws cut ps ≡ answersTo b ws (cut ++ flatten ps)
+pub in-pieces : (d : AtDesk) (ps : List (List ℕ)) → length (d .cut) < callBytes → inPieces d ps ≡ restOf d (flatten ps)
 unfolding inPieces flatten
-in-pieces b ws cut [] h = ends b ws cut h
-in-pieces b ws cut (p ∷ ps) h =
-    let s : Service = serveAll b ws (cut ++ p) in
-    let left : List ℕ = drop (s .taken) (cut ++ p) in
-    ap (λ (l : List ℕ). s .answers ++ l)
-    (cond-same (goesOn (s .stop)) (inPieces (s .board) (s .words) left ps) (answersTo (s .board) (s .words) (left ++ flatten ps))
-    (λ t. in-pieces (s .board) (s .words) left ps (left-short b ws (cut ++ p) t)))
-    ∙ sym (piece b ws (cut ++ p) (flatten ps))
-    ∙ ap (answersTo b ws) (append-assoc cut p (flatten ps))
+in-pieces d [] h = ends (d .store) (d .cut) h
+in-pieces d (p ∷ ps) h =
+    let t : Turning = turnOf d (Input.got p) in
+    ap (λ (l : List ℕ). t .sends ++ l)
+    (cond-same (t .more) (inPieces (t .desk) ps) (restOf (t .desk) (flatten ps)) (λ m. in-pieces (t .desk) ps (cut-short d p m)))
+    ∙ sym (piece-turn d p (flatten ps))
 
 -- the input served in any pieces is the input served whole
-pub pieces : (ps : List (List ℕ)) → inPieces freshBoard deskWords [] ps ≡ deskOf (flatten ps)
+pub pieces : PiecesPromise
 unfolding deskOf
-pieces ps = in-pieces freshBoard deskWords [] ps (omega arith)
+pieces ps = in-pieces atFirst ps (omega arith)

@@ -18,10 +18,11 @@ use Rattle.records.specs.Format.{putAt, Written, wrote, writtenAnswer}
 use Rattle.records.proofs.Bytes.{and-left}
 use Rattle.records.proofs.Fields.{answer-length}
 use Rattle.records.proofs.RoundTrip.{calls}
-use Rattle.steps.specs.declared.Board.{Board}
+use Rattle.steps.specs.Store.{Store}
 use Rattle.steps.specs.declared.Answered.{Answered}
 use Rattle.steps.specs.Step.{outcome, step}
-use Rattle.lanes.specs.Serve.{replyTo, noCall, oneAnswered, answerOne}
+use Rattle.steps.specs.Run.{pairOf}
+use Rattle.lanes.specs.Serve.{replyTo, noCall, OneAnswered, oneAnswered, answerOne}
 
 -- READING
 
@@ -60,26 +61,30 @@ written-is bs to reply p v h =
 
 -- ONE RECORD
 
-module _ (b : Board) (ws bytes : List ℕ) (at : ℕ) (answers : List ℕ) (to : ℕ) (room : to + answerBytes ≤ length answers) where
-  pub one-good : (call : Call) (r : Answered) (ws′ : List ℕ) (place : ℕ) (value : ℕ) (w : Answer) (answers′ : List ℕ)
-      → callAt bytes at ≡ CallRead.Good call → outcome r ws′ ≡ step b ws call → place ≡ placeOf call
+module _ (st : Store) (answers : List ℕ) (to : ℕ) (room : to + answerBytes ≤ length answers) where
+  -- what `reply_to` hands back: the step done, and its answer in the lent bytes
+  pub replied : (call : Call) (r : Answered) (ws′ : List ℕ) (place : ℕ) (value : ℕ) (w : Answer) (answers′ : List ℕ)
+      → goesIn 1 (placeOf call) ≡ true → outcome r ws′ ≡ step st call → place ≡ placeOf call
       → value ≡ valueOf (r .answer) → value < 256 ^ 4
       → wrote w answers′ ≡ writtenAnswer answers to (record { place = place; answer = r .answer })
-      → oneAnswered (record { board = r .board; good = true }) ws′ answers′ ≡ answerOne b ws (callAt bytes at) answers to
-  one-good call r ws′ place value w answers′ e o p v h wr =
-      let byte : goesIn 1 place ≡ true = ap (goesIn 1) p ∙ call-place bytes at call e in
+      → oneAnswered (record { board = r .board; good = true }) ws′ answers′ ≡ answerOne st (CallRead.Good call) answers to
+  replied call r ws′ place value w answers′ g o p v h wr =
+      let byte : goesIn 1 place ≡ true = ap (goesIn 1) p ∙ g in
       let small : valueOf (r .answer) < 256 ^ 4 = omega arith in
-      let named : r .answer ≡ answerOf (step b ws call .number) (step b ws call .value) =
-      sym (answer-back (r .answer)) ∙ (λ i. answerOf (o i .number) (o i .value)) in
-      let put : answers′ ≡ putAt answers to (answerRecord (replyTo call (step b ws call))) =
+      let named : r .answer ≡ answerOf (step st call .said .number) (step st call .said .value) =
+      sym (answer-back (r .answer)) ∙ (λ i. answerOf (o i .said .number) (o i .said .value)) in
+      let put : answers′ ≡ putAt answers to (answerRecord (replyTo (pairOf st call))) =
       ap (λ (s : Written). s .bytes) wr
       ∙ written-is answers to (record { place = place; answer = r .answer }) byte small room
       ∙ (λ i. putAt answers to (answerRecord (record { place = p i; answer = named i }))) in
-      rw e (λ i. record { board = o i .board; words = o i .words; answers = put i; good = true })
+      λ i. record { store = o i .store; answers = put i; good = true }
 
-  pub one-bad : (w : Answer) (answers′ : List ℕ) → callAt bytes at ≡ CallRead.Record → wrote w answers′ ≡ writtenAnswer answers to noCall
-      → oneAnswered (record { board = b; good = false }) ws answers′ ≡ answerOne b ws (callAt bytes at) answers to
-  one-bad w answers′ e wr =
-      let put : answers′ ≡ putAt answers to (answerRecord noCall) =
-      ap (λ (s : Written). s .bytes) wr ∙ written-is answers to noCall refl (lit< tt) room in
-      rw e (λ i. record { board = b; words = ws; answers = put i; good = false })
+-- what `no_call` leaves in the lent bytes
+pub no-call-put : (answers : List ℕ) (to : ℕ) (w : Answer) (answers′ : List ℕ) → to + answerBytes ≤ length answers
+    → wrote w answers′ ≡ writtenAnswer answers to noCall → answers′ ≡ putAt answers to (answerRecord noCall)
+no-call-put answers to w answers′ room wr = ap (λ (s : Written). s .bytes) wr ∙ written-is answers to noCall refl (lit< tt) room
+
+-- what `answer_at` hands back: what was read decides
+pub answered : (st : Store) (bytes : List ℕ) (at : ℕ) (answers : List ℕ) (to : ℕ) (o : OneAnswered) (read : CallRead)
+    → callAt bytes at ≡ read → o ≡ answerOne st read answers to → o ≡ answerOne st (callAt bytes at) answers to
+answered st bytes at answers to o read e h = h ∙ ap (λ (r : CallRead). answerOne st r answers to) (sym e)

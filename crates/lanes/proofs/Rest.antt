@@ -16,8 +16,9 @@ use lib.Seq.{drop-drop}
 use Rattle.records.specs.declared.Call.{Call}
 use Rattle.records.specs.declared.CallRead.{CallRead}
 use Rattle.records.specs.Format.{callBytes, answerBytes, answerRecord, callAt, putAt}
-use Rattle.steps.specs.declared.Board.{Board}
-use Rattle.steps.specs.Step.{Outcome, step}
+use Rattle.steps.specs.Store.{Store, Outcome, lent}
+use Rattle.steps.specs.Step.{step}
+use Rattle.steps.specs.Run.{Run, pairOf, run}
 use Rattle.lanes.specs.declared.Stop.{Stop}
 use Rattle.lanes.specs.declared.Next.{Next}
 use Rattle.lanes.specs.Serve.{
@@ -25,8 +26,7 @@ use Rattle.lanes.specs.Serve.{
   callsIn,
   replyTo,
   noCall,
-  Run,
-  runOf,
+  repliesOf,
   recordsOf,
   wholeCalls,
   tried,
@@ -43,37 +43,35 @@ use Rattle.records.proofs.Bytes.{put-next}
 use Rattle.records.proofs.Fields.{answer-length}
 
 -- calls that are left, of so many records, with i records answered before them; last is why serving stops if they are all calls
-abbrev restWith : List Call → ℕ → ℕ → Stop → Board → List ℕ → List ℕ → Serving
-restWith calls left i last b ws answers =
-    let run : Run = runOf b ws calls in
-    let out : List ℕ = recordsOf (run .replies) ++ refused (length calls) left in
+abbrev restWith : List Call → ℕ → ℕ → Stop → Store → List ℕ → Serving
+restWith calls left i last st answers =
+    let ran : Run = run st calls in
+    let out : List ℕ = recordsOf (repliesOf ran) ++ refused (length calls) left in
     record {
-      board = run .board;
-      words = run .words;
+      store = ran .store;
       answers = putAt answers (answerBytes * i) out;
       taken = callBytes * i + callBytes * length calls;
       written = answerBytes * i + length out;
       stop = cond (ltb (length calls) left) Stop.Record last;
     }
 
-abbrev pub rest : ℕ → ℕ → Stop → Board → List ℕ → List ℕ → List ℕ → Serving
-rest left i last b ws bytes answers = restWith (callsIn left (drop (callBytes * i) bytes)) left i last b ws answers
+abbrev pub rest : ℕ → ℕ → Stop → Store → List ℕ → List ℕ → Serving
+rest left i last st bytes answers = restWith (callsIn left (drop (callBytes * i) bytes)) left i last st answers
 
 abbrev pub lastStop : List ℕ → ℕ → Stop
 lastStop bytes records = cond (leb (wholeCalls bytes) records) Stop.End Stop.Room
 
-module _ (b : Board) (ws bytes answers : List ℕ) where
-  pub rest-whole : serveInto b ws bytes answers
-      ≡ rest (tried bytes (length answers)) 0 (lastStop bytes (tried bytes (length answers))) b ws bytes answers
+module _ (st : Store) (bytes answers : List ℕ) where
+  pub rest-whole : serveInto st bytes answers
+      ≡ rest (tried bytes (length answers)) 0 (lastStop bytes (tried bytes (length answers))) st bytes answers
   unfolding serveOf serveFirst
   rest-whole =
       let n : ℕ = tried bytes (length answers) in
       let calls : List Call = callsIn n bytes in
-      let run : Run = runOf b ws calls in
-      let out : List ℕ = recordsOf (run .replies) ++ refused (length calls) n in
+      let ran : Run = run st calls in
+      let out : List ℕ = recordsOf (repliesOf ran) ++ refused (length calls) n in
       λ i. record {
-        board = run .board;
-        words = run .words;
+        store = ran .store;
         answers = putAt answers 0 out;
         taken = sym (zero-add (callBytes * length calls)) i;
         written = sym (zero-add (length out)) i;
@@ -95,82 +93,77 @@ module _ (bytes : List ℕ) (i k : ℕ) where
   unfolding callsIn callAt
   next-bad e = ap (λ (r : CallRead). readThen r (callsIn k (drop callBytes (drop (callBytes * i) bytes)))) e
 
-module _ (i k : ℕ) (last : Stop) (b : Board) (ws answers : List ℕ) where
+module _ (i k : ℕ) (last : Stop) (st : Store) (answers : List ℕ) where
   with-good : (call : Call) (calls : List Call) → answerBytes * i + answerBytes ≤ length answers
-      → restWith (call ∷ calls) (suc k) i last b ws answers
-      ≡ restWith calls k (i + 1) last (step b ws call .board) (step b ws call .words)
-      (putAt answers (answerBytes * i) (answerRecord (replyTo call (step b ws call))))
-  unfolding runOf recordsOf
+      → restWith (call ∷ calls) (suc k) i last st answers
+      ≡ restWith calls k (i + 1) last (step st call .store)
+      (putAt answers (answerBytes * i) (answerRecord (replyTo (pairOf st call))))
+  unfolding run recordsOf
   with-good call calls room =
-      let o : Outcome = step b ws call in
-      let rec : List ℕ = answerRecord (replyTo call o) in
-      let run : Run = runOf (o .board) (o .words) calls in
+      let o : Outcome = step st call in
+      let rec : List ℕ = answerRecord (replyTo (pairOf st call)) in
+      let ran : Run = run (o .store) calls in
       let less : ltb (suc (length calls)) (suc k) ≡ ltb (length calls) k = leb·suc-suc (suc (length calls)) k in
-      let out : List ℕ = recordsOf (run .replies) ++ refused (length calls) k in
-      let outs : rec ++ recordsOf (run .replies) ++ refused (suc (length calls)) (suc k) ≡ rec ++ out =
-      ap (λ (t : Bool). rec ++ recordsOf (run .replies) ++ cond t (answerRecord noCall) []) less
-      ∙ append-assoc rec (recordsOf (run .replies)) (refused (length calls) k) in
-      let long : length rec ≡ answerBytes = answer-length (replyTo call o) in
+      let out : List ℕ = recordsOf (repliesOf ran) ++ refused (length calls) k in
+      let outs : rec ++ recordsOf (repliesOf ran) ++ refused (suc (length calls)) (suc k) ≡ rec ++ out =
+      ap (λ (t : Bool). rec ++ recordsOf (repliesOf ran) ++ cond t (answerRecord noCall) []) less
+      ∙ append-assoc rec (recordsOf (repliesOf ran)) (refused (length calls) k) in
+      let long : length rec ≡ answerBytes = answer-length (replyTo (pairOf st call)) in
       let far : answerBytes * i + length rec ≡ answerBytes * (i + 1) = omega arith in
-      let puts : putAt answers (answerBytes * i) (rec ++ recordsOf (run .replies) ++ refused (suc (length calls)) (suc k))
+      let puts : putAt answers (answerBytes * i) (rec ++ recordsOf (repliesOf ran) ++ refused (suc (length calls)) (suc k))
       ≡ putAt (putAt answers (answerBytes * i) rec) (answerBytes * (i + 1)) out =
       ap (putAt answers (answerBytes * i)) outs
       ∙ sym (put-next answers (answerBytes * i) rec (omega arith) out)
       ∙ ap (λ (n : ℕ). putAt (putAt answers (answerBytes * i) rec) n out) far in
       let takes : callBytes * i + callBytes * suc (length calls) ≡ callBytes * (i + 1) + callBytes * length calls = omega arith in
-      let writes : answerBytes * i + length (rec ++ recordsOf (run .replies) ++ refused (suc (length calls)) (suc k))
+      let writes : answerBytes * i + length (rec ++ recordsOf (repliesOf ran) ++ refused (suc (length calls)) (suc k))
       ≡ answerBytes * (i + 1) + length out =
       ap (λ (l : List ℕ). answerBytes * i + length l) outs ∙ rw length-append (omega arith) in
       λ j. record {
-        board = run .board;
-        words = run .words;
+        store = ran .store;
         answers = puts j;
         taken = takes j;
         written = writes j;
         stop = cond (less j) Stop.Record last;
       }
 
-  with-bad : restWith [] (suc k) i last b ws answers
+  with-bad : restWith [] (suc k) i last st answers
       ≡ record {
-        board = b;
-        words = ws;
+        store = st;
         answers = putAt answers (answerBytes * i) (answerRecord noCall);
         taken = callBytes * i;
         written = answerBytes * (i + 1);
         stop = Stop.Record;
       }
-  unfolding runOf recordsOf
+  unfolding run recordsOf
   with-bad =
       let first : ltb 0 (suc k) ≡ true = leb·suc-suc 0 k ∙ leb·zero k in
       let outs : refused 0 (suc k) ≡ answerRecord noCall = ap (λ (t : Bool). cond t (answerRecord noCall) []) first in
       let writes : answerBytes * i + length (refused 0 (suc k)) ≡ answerBytes * (i + 1) =
       ap (λ (l : List ℕ). answerBytes * i + length l) outs ∙ rw answer-length (omega arith) in
       λ j. record {
-        board = b;
-        words = ws;
+        store = st;
         answers = putAt answers (answerBytes * i) (outs j);
         taken = add-zero (callBytes * i) j;
         written = writes j;
         stop = cond (first j) Stop.Record last;
       }
 
-  with-none : restWith [] 0 i last b ws answers
+  with-none : restWith [] 0 i last st answers
       ≡ record {
-        board = b;
-        words = ws;
+        store = st;
         answers = answers;
         taken = callBytes * i;
         written = answerBytes * i;
         stop = last;
       }
-  unfolding runOf recordsOf putAt
+  unfolding run recordsOf putAt
   with-none =
       let at : ℕ = answerBytes * i in
       let same : take at answers ++ drop (at + 0) answers ≡ answers =
       ap (λ (n : ℕ). take at answers ++ drop n answers) (add-zero at) ∙ take-append-drop at answers in
       λ j. record {
-        board = b;
-        words = ws;
+        store = st;
         answers = same j;
         taken = add-zero (callBytes * i) j;
         written = add-zero at j;
@@ -178,25 +171,24 @@ module _ (i k : ℕ) (last : Stop) (b : Board) (ws answers : List ℕ) where
       }
 
 -- one turn of the loop: what answering the record at the front of what is left tells
-module _ (i k : ℕ) (last : Stop) (b : Board) (ws bytes answers : List ℕ) (t : Next) (ws′ answers′ : List ℕ) where
+module _ (i k : ℕ) (last : Stop) (st : Store) (bytes answers : List ℕ) (t : Next) (ws′ answers′ : List ℕ) where
   pub rest-good : answerBytes * i + answerBytes ≤ length answers
-      → oneAnswered t ws′ answers′ ≡ answerOne b ws (callAt bytes (callBytes * i)) answers (answerBytes * i) → t .good ≡ true
-      → rest (suc k) i last b ws bytes answers ≡ rest k (i + 1) last (t .board) ws′ bytes answers′
+      → oneAnswered t ws′ answers′ ≡ answerOne st (callAt bytes (callBytes * i)) answers (answerBytes * i) → t .good ≡ true
+      → rest (suc k) i last st bytes answers ≡ rest k (i + 1) last (lent (t .board) ws′) bytes answers′
   rest-good room e g = go (callAt bytes (callBytes * i)) refl e
     where
-      go : (r : CallRead) → callAt bytes (callBytes * i) ≡ r → oneAnswered t ws′ answers′ ≡ answerOne b ws r answers (answerBytes * i)
-          → rest (suc k) i last b ws bytes answers ≡ rest k (i + 1) last (t .board) ws′ bytes answers′
+      go : (r : CallRead) → callAt bytes (callBytes * i) ≡ r → oneAnswered t ws′ answers′ ≡ answerOne st r answers (answerBytes * i)
+          → rest (suc k) i last st bytes answers ≡ rest k (i + 1) last (lent (t .board) ws′) bytes answers′
       go (CallRead.Good call) h o =
-          ap (λ (l : List Call). restWith l (suc k) i last b ws answers) (next-good bytes i k call h)
-          ∙ with-good i k last b ws answers call (callsIn k (drop (callBytes * (i + 1)) bytes)) room
-          ∙ sym (λ j. rest k (i + 1) last (o j .board) (o j .words) bytes (o j .answers))
+          ap (λ (l : List Call). restWith l (suc k) i last st answers) (next-good bytes i k call h)
+          ∙ with-good i k last st answers call (callsIn k (drop (callBytes * (i + 1)) bytes)) room
+          ∙ sym (λ j. rest k (i + 1) last (o j .store) bytes (o j .answers))
       go CallRead.Record h o = absurd (true≢false (sym g ∙ ap (λ (s : OneAnswered). s .good) o))
 
-  pub rest-bad : oneAnswered t ws′ answers′ ≡ answerOne b ws (callAt bytes (callBytes * i)) answers (answerBytes * i) → t .good ≡ false
-      → rest (suc k) i last b ws bytes answers
+  pub rest-bad : oneAnswered t ws′ answers′ ≡ answerOne st (callAt bytes (callBytes * i)) answers (answerBytes * i) → t .good ≡ false
+      → rest (suc k) i last st bytes answers
       ≡ record {
-        board = t .board;
-        words = ws′;
+        store = lent (t .board) ws′;
         answers = answers′;
         taken = callBytes * i;
         written = answerBytes * (i + 1);
@@ -204,11 +196,10 @@ module _ (i k : ℕ) (last : Stop) (b : Board) (ws bytes answers : List ℕ) (t 
       }
   rest-bad e g = go (callAt bytes (callBytes * i)) refl e
     where
-      go : (r : CallRead) → callAt bytes (callBytes * i) ≡ r → oneAnswered t ws′ answers′ ≡ answerOne b ws r answers (answerBytes * i)
-          → rest (suc k) i last b ws bytes answers
+      go : (r : CallRead) → callAt bytes (callBytes * i) ≡ r → oneAnswered t ws′ answers′ ≡ answerOne st r answers (answerBytes * i)
+          → rest (suc k) i last st bytes answers
           ≡ record {
-            board = t .board;
-            words = ws′;
+            store = lent (t .board) ws′;
             answers = answers′;
             taken = callBytes * i;
             written = answerBytes * (i + 1);
@@ -216,11 +207,10 @@ module _ (i k : ℕ) (last : Stop) (b : Board) (ws bytes answers : List ℕ) (t 
           }
       go (CallRead.Good call) h o = absurd (false≢true (sym g ∙ ap (λ (s : OneAnswered). s .good) o))
       go CallRead.Record h o =
-          ap (λ (l : List Call). restWith l (suc k) i last b ws answers) (next-bad bytes i k h)
-          ∙ with-bad i k last b ws answers
+          ap (λ (l : List Call). restWith l (suc k) i last st answers) (next-bad bytes i k h)
+          ∙ with-bad i k last st answers
           ∙ sym (λ j. record {
-            board = o j .board;
-            words = o j .words;
+            store = o j .store;
             answers = o j .answers;
             taken = callBytes * i;
             written = answerBytes * (i + 1);
@@ -228,33 +218,32 @@ module _ (i k : ℕ) (last : Stop) (b : Board) (ws bytes answers : List ℕ) (t 
           })
 
 -- the same, of n records in all
-module _ (n i : ℕ) (h : i < n) (last : Stop) (b : Board) (ws bytes answers : List ℕ) (t : Next) (ws′ answers′ : List ℕ)
-    (e : oneAnswered t ws′ answers′ ≡ answerOne b ws (callAt bytes (callBytes * i)) answers (answerBytes * i)) where
+module _ (n i : ℕ) (h : i < n) (last : Stop) (st : Store) (bytes answers : List ℕ) (t : Next) (ws′ answers′ : List ℕ)
+    (e : oneAnswered t ws′ answers′ ≡ answerOne st (callAt bytes (callBytes * i)) answers (answerBytes * i)) where
   one-less : n - i ≡ suc (n - (i + 1))
   one-less = omega arith
 
   pub turn-good : answerBytes * i + answerBytes ≤ length answers → t .good ≡ true
-      → rest (n - i) i last b ws bytes answers ≡ rest (n - (i + 1)) (i + 1) last (t .board) ws′ bytes answers′
+      → rest (n - i) i last st bytes answers ≡ rest (n - (i + 1)) (i + 1) last (lent (t .board) ws′) bytes answers′
   turn-good room g =
-      ap (λ (left : ℕ). rest left i last b ws bytes answers) one-less
-      ∙ rest-good i (n - (i + 1)) last b ws bytes answers t ws′ answers′ room e g
+      ap (λ (left : ℕ). rest left i last st bytes answers) one-less
+      ∙ rest-good i (n - (i + 1)) last st bytes answers t ws′ answers′ room e g
 
   pub turn-bad : t .good ≡ false
-      → rest (n - i) i last b ws bytes answers
+      → rest (n - i) i last st bytes answers
       ≡ record {
-        board = t .board;
-        words = ws′;
+        store = lent (t .board) ws′;
         answers = answers′;
         taken = callBytes * i;
         written = answerBytes * (i + 1);
         stop = Stop.Record;
       }
   turn-bad g =
-      ap (λ (left : ℕ). rest left i last b ws bytes answers) one-less
-      ∙ rest-bad i (n - (i + 1)) last b ws bytes answers t ws′ answers′ e g
+      ap (λ (left : ℕ). rest left i last st bytes answers) one-less
+      ∙ rest-bad i (n - (i + 1)) last st bytes answers t ws′ answers′ e g
 
-pub rest-none : (i : ℕ) (last : Stop) (b : Board) (ws bytes answers : List ℕ)
-    → rest 0 i last b ws bytes answers
-    ≡ record { board = b; words = ws; answers = answers; taken = callBytes * i; written = answerBytes * i; stop = last }
+pub rest-none : (i : ℕ) (last : Stop) (st : Store) (bytes answers : List ℕ)
+    → rest 0 i last st bytes answers
+    ≡ record { store = st; answers = answers; taken = callBytes * i; written = answerBytes * i; stop = last }
 unfolding callsIn
-rest-none i last b ws bytes answers = with-none i 0 last b ws answers
+rest-none i last st bytes answers = with-none i 0 last st answers

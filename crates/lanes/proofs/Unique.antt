@@ -5,42 +5,37 @@ use Prim.Native.Nat.{ℕ}
 use mathlib.Core.Path.{_≡_, sym, ap, _∙_}
 use mathlib.Core.List.{List}
 use Rattle.records.specs.declared.Call.{Call}
-use Rattle.steps.specs.declared.Board.{Board}
+use Rattle.steps.specs.Store.{Store}
 use Rattle.steps.specs.declared.Answered.{Answered}
 use Rattle.steps.specs.Step.{outcome, step}
 use Rattle.steps.proofs.Unique.{unique}
 use Rattle.lanes.specs.declared.Served.{Served}
+use Rattle.lanes.specs.declared.Desk.{Desk}
 use Rattle.lanes.specs.declared.Turned.{Turned}
 use Rattle.lanes.specs.Serve.{Serving, serving, serveInto}
-use Rattle.lanes.specs.Desk.{Turning, turning, turnOf, Ending, ending, endOf}
+use Rattle.lanes.specs.Desk.{TurnedIn, turnedIn, turnInto}
 
-pub call-unique : (b : Board) (ws : List ℕ) (call : Call) (r s : Answered) (us vs : List ℕ)
-    → outcome r us ≡ step b ws call → outcome s vs ≡ step b ws call → (r ≡ s) × (us ≡ vs)
+pub call-unique : (st : Store) (call : Call) (r s : Answered) (us vs : List ℕ)
+    → outcome r us ≡ step st call → outcome s vs ≡ step st call → (r ≡ s) × (us ≡ vs)
 call-unique = unique
 
-pub serve-unique : (b : Board) (ws bytes answers : List ℕ) (r s : Served) (us vs xs ys : List ℕ)
-    → serving r us xs ≡ serveInto b ws bytes answers → serving s vs ys ≡ serveInto b ws bytes answers
+pub serve-unique : (st : Store) (bytes answers : List ℕ) (r s : Served) (us vs xs ys : List ℕ)
+    → serving r us xs ≡ serveInto st bytes answers → serving s vs ys ≡ serveInto st bytes answers
     → (r ≡ s) × (us ≡ vs) × (xs ≡ ys)
-serve-unique b ws bytes answers r s us vs xs ys e f =
+serve-unique st bytes answers r s us vs xs ys e f =
     let same : serving r us xs ≡ serving s vs ys = e ∙ sym f in (
-      λ i. record { board = same i .board; taken = same i .taken; written = same i .written; stop = same i .stop },
-      ap (λ (o : Serving). o .words) same,
+      λ i. record { board = same i .store .board; taken = same i .taken; written = same i .written; stop = same i .stop },
+      ap (λ (o : Serving). o .store .words) same,
       ap (λ (o : Serving). o .answers) same,
     )
 
-pub turn-unique : (b : Board) (ws bytes : List ℕ) (have : ℕ) (answers : List ℕ) (r s : Turned) (us vs is js xs ys : List ℕ)
-    → turning r us is xs ≡ turnOf b ws bytes have answers → turning s vs js ys ≡ turnOf b ws bytes have answers
+pub turn-unique : (d : Desk) (ws bytes : List ℕ) (got : ℕ) (answers : List ℕ) (r s : Turned) (us vs is js xs ys : List ℕ)
+    → turnedIn r us is xs ≡ turnInto d ws bytes got answers → turnedIn s vs js ys ≡ turnInto d ws bytes got answers
     → (r ≡ s) × (us ≡ vs) × (is ≡ js) × (xs ≡ ys)
-turn-unique b ws bytes have answers r s us vs is js xs ys e f =
-    let same : turning r us is xs ≡ turning s vs js ys = e ∙ sym f in (
-      λ i. record { board = same i .board; left = same i .left; written = same i .written; stop = same i .stop },
-      ap (λ (o : Turning). o .words) same,
-      ap (λ (o : Turning). o .bytes) same,
-      ap (λ (o : Turning). o .answers) same,
+turn-unique d ws bytes got answers r s us vs is js xs ys e f =
+    let same : turnedIn r us is xs ≡ turnedIn s vs js ys = e ∙ sym f in (
+      ap (λ (o : TurnedIn). o .turned) same,
+      ap (λ (o : TurnedIn). o .words) same,
+      ap (λ (o : TurnedIn). o .bytes) same,
+      ap (λ (o : TurnedIn). o .answers) same,
     )
-
-pub finish-unique : (left : ℕ) (answers : List ℕ) (r s : ℕ) (xs ys : List ℕ)
-    → ending r xs ≡ endOf left answers → ending s ys ≡ endOf left answers → (r ≡ s) × (xs ≡ ys)
-finish-unique left answers r s xs ys e f =
-    let same : ending r xs ≡ ending s ys = e ∙ sym f in
-    (ap (λ (o : Ending). o .written) same, ap (λ (o : Ending). o .answers) same)

@@ -2,7 +2,7 @@
 -- Assumes nothing.
 use Prim.Native.Nat.{ℕ, zero, suc, _*_, _/_, min}
 use mathlib.Core.Bool.{Bool, true, false, cond}
-use mathlib.Core.List.{List, [], _∷_, _++_}
+use mathlib.Core.List.{List, [], _∷_, _++_, map}
 use lib.Dec.{ltb, leb}
 use lib.ListN.{length, drop}
 use Rattle.records.specs.declared.Answer.{Answer}
@@ -11,8 +11,9 @@ use Rattle.records.specs.declared.CallRead.{CallRead}
 use Rattle.records.specs.declared.Reply.{Reply}
 use Rattle.records.specs.Answers.{placeOf}
 use Rattle.records.specs.Format.{callBytes, answerBytes, answerOf, answerRecord, callAt, putAt}
-use Rattle.steps.specs.declared.Board.{Board}
-use Rattle.steps.specs.Step.{Outcome, step}
+use Rattle.steps.specs.Store.{Store, lent}
+use Rattle.steps.specs.Step.{step}
+use Rattle.steps.specs.Run.{Pair, Run, pairOf, run}
 use Rattle.lanes.specs.declared.Stop.{Stop}
 use Rattle.lanes.specs.declared.Served.{Served}
 use Rattle.lanes.specs.declared.Next.{Next}
@@ -28,26 +29,16 @@ callsIn zero bytes = []
 callsIn (suc n) bytes = readThen (callAt bytes 0) (callsIn n (drop callBytes bytes))
 
 -- one answer each, with the call's place byte
-abbrev pub replyTo : Call → Outcome → Reply
-replyTo call o = record { place = placeOf call; answer = answerOf (o .number) (o .value) }
+abbrev pub replyTo : Pair → Reply
+replyTo h = record { place = placeOf (h .call); answer = answerOf (h .said .number) (h .said .value) }
+
+-- the answers of a run of calls
+abbrev pub repliesOf : Run → List Reply
+repliesOf r = map replyTo (r .pairs)
 
 -- RECORD with place 0 and value 0
 abbrev pub noCall : Reply
 noCall = record { place = 0; answer = Answer.Record }
-
--- what a run of calls comes to: the record, the lent words and the answers
-pub record Run : Type 0 where
-  pub board : Board
-  pub words : List ℕ
-  pub replies : List Reply
-
--- each call does its step on the record and the words that the call before it left
-unfoldable pub runOf : Board → List ℕ → List Call → Run
-runOf b ws [] = record { board = b; words = ws; replies = [] }
-runOf b ws (call ∷ calls) =
-    let o : Outcome = step b ws call in
-    let later : Run = runOf (o .board) (o .words) calls in
-    record { board = later .board; words = later .words; replies = replyTo call o ∷ later .replies }
 
 -- the bytes of answers
 unfoldable pub recordsOf : List Reply → List ℕ
@@ -70,36 +61,33 @@ refused calls records = cond (ltb calls records) (answerRecord noCall) []
 abbrev pub stopOf : ℕ → ℕ → ℕ → Stop
 stopOf calls records whole = cond (ltb calls records) Stop.Record (cond (leb whole records) Stop.End Stop.Room)
 
--- what serving comes to: the record and the words, the bytes of the answers, how many bytes of calls were taken, and why it stopped
+-- what serving comes to: the store, the bytes of the answers, how many bytes of calls were taken, and why it stopped
 pub record Service : Type 0 where
-  pub board : Board
-  pub words : List ℕ
+  pub store : Store
   pub answers : List ℕ
   pub taken : ℕ
   pub stop : Stop
 
 -- serving the first so many records: it answers record by record; at bytes that are no call it writes RECORD, and does not take them
-unfoldable pub serveFirst : ℕ → Board → List ℕ → List ℕ → Service
-serveFirst records b ws bytes =
+unfoldable pub serveFirst : ℕ → Store → List ℕ → Service
+serveFirst records st bytes =
     let calls : List Call = callsIn records bytes in
-    let run : Run = runOf b ws calls in
+    let ran : Run = run st calls in
     record {
-      board = run .board;
-      words = run .words;
-      answers = recordsOf (run .replies) ++ refused (length calls) records;
+      store = ran .store;
+      answers = recordsOf (repliesOf ran) ++ refused (length calls) records;
       taken = callBytes * length calls;
       stop = stopOf (length calls) records (wholeCalls bytes);
     }
 
 -- serving bytes of calls, with room for so many bytes of answers: up to the end of the whole records, to bytes that are no call, or
 -- until no room is left for one more answer
-unfoldable pub serveOf : Board → List ℕ → List ℕ → ℕ → Service
-serveOf b ws bytes room = serveFirst (tried bytes room) b ws bytes
+unfoldable pub serveOf : Store → List ℕ → ℕ → Service
+serveOf st bytes room = serveFirst (tried bytes room) st bytes
 
 -- what a function of this crate handed back, with the lent words and bytes as it left them
 pub record Serving : Type 0 where
-  pub board : Board
-  pub words : List ℕ
+  pub store : Store
   pub answers : List ℕ
   pub taken : ℕ
   pub written : ℕ
@@ -108,14 +96,13 @@ pub record Serving : Type 0 where
 -- what `serve` handed back, as such a record
 abbrev pub serving : Served → List ℕ → List ℕ → Serving
 serving r ws answers =
-    record { board = r .board; words = ws; answers = answers; taken = r .taken; written = r .written; stop = r .stop }
+    record { store = lent (r .board) ws; answers = answers; taken = r .taken; written = r .written; stop = r .stop }
 
 -- serving into lent bytes: the answers from the front, the bytes past them stay
 abbrev pub intoBytes : List ℕ → Service → Serving
 intoBytes answers s =
     record {
-      board = s .board;
-      words = s .words;
+      store = s .store;
       answers = putAt answers 0 (s .answers);
       taken = s .taken;
       written = length (s .answers);
@@ -123,24 +110,21 @@ intoBytes answers s =
     }
 
 -- what serving bytes of calls into lent bytes comes to
-abbrev pub serveInto : Board → List ℕ → List ℕ → List ℕ → Serving
-serveInto b ws bytes answers = intoBytes answers (serveOf b ws bytes (length answers))
+abbrev pub serveInto : Store → List ℕ → List ℕ → Serving
+serveInto st bytes answers = intoBytes answers (serveOf st bytes (length answers))
 
--- one record answered: the record and the words after it, the lent bytes with its answer, and whether it was a call
+-- one record answered: the store after it, the lent bytes with its answer, and whether it was a call
 pub record OneAnswered : Type 0 where
-  pub board : Board
-  pub words : List ℕ
+  pub store : Store
   pub answers : List ℕ
   pub good : Bool
 
 -- what answering one record handed back, as such a record
 abbrev pub oneAnswered : Next → List ℕ → List ℕ → OneAnswered
-oneAnswered r ws answers = record { board = r .board; words = ws; answers = answers; good = r .good }
+oneAnswered r ws answers = record { store = lent (r .board) ws; answers = answers; good = r .good }
 
--- a call does its step and is answered in the lent bytes; bytes that are no call change neither record nor words
-abbrev pub answerOne : Board → List ℕ → CallRead → List ℕ → ℕ → OneAnswered
-answerOne b ws (CallRead.Good call) answers to =
-    let o : Outcome = step b ws call in
-    record { board = o .board; words = o .words; answers = putAt answers to (answerRecord (replyTo call o)); good = true }
-answerOne b ws CallRead.Record answers to =
-    record { board = b; words = ws; answers = putAt answers to (answerRecord noCall); good = false }
+-- a call does its step and is answered in the lent bytes; bytes that are no call change nothing of the store
+abbrev pub answerOne : Store → CallRead → List ℕ → ℕ → OneAnswered
+answerOne st (CallRead.Good call) answers to =
+    record { store = step st call .store; answers = putAt answers to (answerRecord (replyTo (pairOf st call))); good = true }
+answerOne st CallRead.Record answers to = record { store = st; answers = putAt answers to (answerRecord noCall); good = false }

@@ -1,4 +1,5 @@
-// Lane calls: one call, a run of call records into answer records, and what the desk does with its input.
+// Lane calls: one call, a run of call records into answer records, and one turn of the desk.
+use cells::Cell;
 use records::ANSWER_BYTES;
 use records::Answer;
 use records::CALL_BYTES;
@@ -8,14 +9,16 @@ use records::Reply;
 use steps::Answered;
 use steps::Board;
 ghost use mathlib.Core.Path.{_≡_};
-ghost use Prim.Native.Nat.{_+_, _-_, _≤_, min};
-ghost use mathlib.Core.Bool.{cond};
+ghost use Prim.Native.Nat.{_+_, _*_, _-_, _/_, _≤_, min};
+ghost use mathlib.Core.Bool.{true, cond, _&&_};
 ghost use lib.Dec.{leb};
 ghost use lib.ListN.{length, take, drop};
-ghost use Rattle.records.specs.Format.{answerBytes, callAt, putAt};
+ghost use Rattle.records.specs.Answers.{placeOf};
+ghost use Rattle.records.specs.Format.{answerBytes, callBytes, goesIn, answerRecord, callAt, putAt};
+ghost use Rattle.steps.specs.Store.{lent};
 ghost use Rattle.steps.specs.Step.{outcome, step};
-ghost use Rattle.lanes.specs.Serve.{serving, serveInto, oneAnswered, answerOne};
-ghost use Rattle.lanes.specs.Desk.{goesOn, turning, turnOf, ending, endOf};
+ghost use Rattle.lanes.specs.Serve.{noCall, serving, serveInto, oneAnswered, answerOne};
+ghost use Rattle.lanes.specs.Desk.{deskWords, moreAfter, atEnd, turnOn, freshDesk, turnedIn, turnPut, turnInto};
 
 // Why serving stopped: fewer bytes than a call record are left, bytes that are no call, or no room for one more answer.
 pub enum Stop {
@@ -40,7 +43,7 @@ struct Next {
 
 // The step that a call names.
 pub fn call(board: Board, cells: &mut [u32], call: Call) -> Answered
-    ensures { λ r. ⌜ outcome r (now (cells .exit)) ≡ step board (now (cells .entry)) call ⌝ }
+    ensures { λ r. ⌜ outcome r (now (cells .exit)) ≡ step (lent board (now (cells .entry))) call ⌝ }
 {
     match call {
         Call::Start { place } => board.start(cells, place),
@@ -63,39 +66,54 @@ fn answer_at(
 ) -> Next
     requires { ⌜ to + answerBytes ≤ length (now answers) ⌝ }
     ensures { λ r. ⌜ oneAnswered r (now (cells .exit)) (now (answers .exit))
-        ≡ answerOne board (now (cells .entry)) (callAt (now (calls .entry)) at) (now (answers .entry)) to ⌝ }
+        ≡ answerOne (lent board (now (cells .entry))) (callAt (now (calls .entry)) at) (now (answers .entry)) to ⌝ }
 {
     let read = records::read_call(calls, at);
     match read {
-        CallRead::Good(c) => {
-            let a = call(board, cells, c);
-            let answer = a.answer;
-            let place = records::place_of(c);
-            // A u32, so the answer goes into its record; the proof rests on this call, and the code makes nothing of it.
-            records::value(answer);
-            let reply = Reply {
-                place: place,
-                answer: answer,
-            };
-            records::write_answer(answers, to, reply);
-            let next = a.board;
-            Next {
-                board: next,
-                good: true,
-            }
-        }
+        CallRead::Good(c) => reply_to(board, cells, c, answers, to),
         CallRead::Record => {
-            let reply = Reply {
-                place: 0,
-                answer: Answer::Record,
-            };
-            records::write_answer(answers, to, reply);
+            no_call(answers, to);
             Next {
                 board: board,
                 good: false,
             }
         }
     }
+}
+
+// Does a call that was read, and writes its answer, with the call's place byte.
+fn reply_to(board: Board, cells: &mut [u32], c: Call, answers: &mut [u8], to: usize) -> Next
+    requires { ⌜ (goesIn 1 (placeOf c) ≡ true) × (to + answerBytes ≤ length (now answers)) ⌝ }
+    ensures { λ r. ⌜ oneAnswered r (now (cells .exit)) (now (answers .exit))
+        ≡ answerOne (lent board (now (cells .entry))) (CallRead.Good c) (now (answers .entry)) to ⌝ }
+{
+    let a = call(board, cells, c);
+    let answer = a.answer;
+    let place = records::place_of(c);
+    // A u32, so the answer goes into its record; the proof rests on this call, and the code makes nothing of it.
+    records::value(answer);
+    let reply = Reply {
+        place: place,
+        answer: answer,
+    };
+    records::write_answer(answers, to, reply);
+    let next = a.board;
+    Next {
+        board: next,
+        good: true,
+    }
+}
+
+// Writes RECORD with place 0 and value 0.
+fn no_call(answers: &mut [u8], to: usize)
+    requires { ⌜ to + answerBytes ≤ length (now answers) ⌝ }
+    ensures { λ r. ⌜ now (answers .exit) ≡ putAt (now (answers .entry)) to (answerRecord noCall) ⌝ }
+{
+    let reply = Reply {
+        place: 0,
+        answer: Answer::Record,
+    };
+    records::write_answer(answers, to, reply);
 }
 
 // The lesser of two numbers.
@@ -112,7 +130,7 @@ fn least(a: usize, b: usize) -> usize
 // they are not taken), or until no room is left for one more answer.
 pub fn serve(board: Board, cells: &mut [u32], calls: &[u8], answers: &mut [u8]) -> Served
     ensures { λ r. ⌜ serving r (now (cells .exit)) (now (answers .exit))
-        ≡ serveInto board (now (cells .entry)) (now (calls .entry)) (now (answers .entry)) ⌝ }
+        ≡ serveInto (lent board (now (cells .entry))) (now (calls .entry)) (now (answers .entry)) ⌝ }
 {
     let whole = calls.len() / CALL_BYTES;
     let records = least(whole, answers.len() / ANSWER_BYTES);
@@ -154,41 +172,134 @@ fn last_stop(whole: usize, records: usize) -> Stop
     Stop::Room
 }
 
-// What one turn of the desk came to: the new record, how many bytes are left at the front, how many were written, and why it stopped.
-pub struct Turned {
+// The desk between two turns: the record, and how many bytes at the front of its input are a cut record.
+pub struct Desk {
     pub board: Board,
     pub left: usize,
-    pub written: usize,
-    pub stop: Stop,
 }
 
-// One turn of the desk: serves the first `have` bytes, and moves what is left of them to the front.
-pub fn turn(
+// What a turn came to: the desk after it, how many bytes of answers there are to send, and whether there is more to do.
+pub struct Turned {
+    pub desk: Desk,
+    pub written: usize,
+    pub more: bool,
+}
+
+impl Desk {
+    // A turn answers at most so many calls.
+    pub const CALLS: usize = 1000;
+
+    // Its input: so many calls, and all but a byte of one more.
+    pub const INPUT: usize = CALL_BYTES * Self::CALLS + (CALL_BYTES - 1);
+
+    // Its output: an answer to each.
+    pub const OUTPUT: usize = ANSWER_BYTES * Self::CALLS;
+
+    // The words of its cells.
+    pub const WORDS: usize = Cell::WORDS * Board::CELLS;
+
+    // A fresh board, and no byte left.
+    pub fn fresh() -> Self
+        ensures { λ r. ⌜ r ≡ freshDesk ⌝ }
+    {
+        let board = Board::fresh();
+        Desk {
+            board: board,
+            left: 0,
+        }
+    }
+
+    // 1,024 cells, every word 0.
+    pub fn words() -> [u32; Desk::WORDS]
+        ensures { λ r. ⌜ r ≡ deskWords ⌝ }
+    {
+        [0; Desk::WORDS]
+    }
+
+    // One turn: `got` bytes of the input stand in `bytes` behind those that are left; none is the end of the input. Says how many bytes
+    // of `answers` to send, and whether there is more to do. What is lent has room for the answers to all that goes in.
+    pub fn turn(
+        self,
+        cells: &mut [u32; Desk::WORDS],
+        bytes: &mut [u8; Desk::INPUT],
+        got: usize,
+        answers: &mut [u8; Desk::OUTPUT],
+    ) -> Turned
+        ensures { λ r. ⌜ turnedIn r (now (cells .exit)) (now (bytes .exit)) (now (answers .exit))
+            ≡ turnInto self (now (cells .entry)) (now (bytes .entry)) got (now (answers .entry)) ⌝ }
+    {
+        self.turn_with(cells, bytes, got, answers)
+    }
+
+    // The same on any number of bytes, with room for their answers.
+    fn turn_with(
+        self,
+        cells: &mut [u32],
+        bytes: &mut [u8],
+        got: usize,
+        answers: &mut [u8],
+    ) -> Turned
+        requires { ⌜ (answerBytes ≤ length (now answers)) × (answerBytes * (length (now bytes) / callBytes) ≤ length (now answers)) ⌝ }
+        ensures { λ r. ⌜ turnedIn r (now (cells .exit)) (now (bytes .exit)) (now (answers .exit))
+            ≡ turnInto self (now (cells .entry)) (now (bytes .entry)) got (now (answers .entry)) ⌝ }
+    {
+        let board = self.board;
+        let left = least(self.left, bytes.len());
+        if got == 0 {
+            let desk = Desk {
+                board: board,
+                left: left,
+            };
+            return Turned {
+                desk: desk,
+                written: finish(left, answers),
+                more: false,
+            };
+        }
+        let have = left + least(got, bytes.len() - left);
+        turn_on(board, cells, bytes, have, answers)
+    }
+}
+
+impl Turned {
+    // Whether the desk goes on: there is more to do, and what it had to send was sent.
+    pub fn goes_on(self, sent: bool) -> bool
+        ensures { λ r. ⌜ r ≡ (self .more && sent) ⌝ }
+    {
+        self.more & sent
+    }
+}
+
+// Answers all whole records in the first `have` bytes, and moves what is left of these to the front.
+fn turn_on(
     board: Board,
     cells: &mut [u32],
     bytes: &mut [u8],
     have: usize,
     answers: &mut [u8],
 ) -> Turned
-    ensures { λ r. ⌜ turning r (now (cells .exit)) (now (bytes .exit)) (now (answers .exit))
-        ≡ turnOf board (now (cells .entry)) (now (bytes .entry)) have (now (answers .entry)) ⌝ }
+    requires { ⌜ (have ≤ length (now bytes)) × (answerBytes * (have / callBytes) ≤ length (now answers)) ⌝ }
+    ensures { λ r. ⌜ turnedIn r (now (cells .exit)) (now (bytes .exit)) (now (answers .exit))
+        ≡ turnPut (now (bytes .entry)) (now (answers .entry)) (turnOn (lent board (now (cells .entry))) (take have (now (bytes .entry)))) ⌝ }
 {
-    let to = least(have, bytes.len());
-    let s = serve(board, cells, &bytes[..to], answers);
-    let left = carry(bytes, s.taken, to);
-    let next = s.board;
+    let s = serve(board, cells, &bytes[..have], answers);
+    let left = carry(bytes, s.taken, have);
+    let after = s.board;
     let stop = s.stop;
-    Turned {
-        board: next,
+    let desk = Desk {
+        board: after,
         left: left,
+    };
+    Turned {
+        desk: desk,
         written: s.written,
-        stop: stop,
+        more: more_after(stop),
     }
 }
 
-// Whether the desk goes on to more input after such a stop.
-pub fn goes_on(stop: Stop) -> bool
-    ensures { λ r. ⌜ r ≡ goesOn stop ⌝ }
+// Whether there is more to do after such a stop.
+fn more_after(stop: Stop) -> bool
+    ensures { λ r. ⌜ r ≡ moreAfter stop ⌝ }
 {
     match stop {
         Stop::End => true,
@@ -210,19 +321,13 @@ fn carry(bytes: &mut [u8], from: usize, to: usize) -> usize
 }
 
 // The end of the input, with so many bytes left: writes RECORD for a cut record, and says how many bytes were written.
-pub fn finish(left: usize, answers: &mut [u8]) -> usize
-    ensures { λ r. ⌜ ending r (now (answers .exit)) ≡ endOf left (now (answers .entry)) ⌝ }
+fn finish(left: usize, answers: &mut [u8]) -> usize
+    requires { ⌜ answerBytes ≤ length (now answers) ⌝ }
+    ensures { λ r. ⌜ (r ≡ length (atEnd left)) × (now (answers .exit) ≡ putAt (now (answers .entry)) 0 (atEnd left)) ⌝ }
 {
     if left == 0 {
         return 0;
     }
-    if answers.len() < ANSWER_BYTES {
-        return 0;
-    }
-    let reply = Reply {
-        place: 0,
-        answer: Answer::Record,
-    };
-    records::write_answer(answers, 0, reply);
+    no_call(answers, 0);
     ANSWER_BYTES
 }

@@ -18,15 +18,17 @@ use lib.Dec.{eqb, leb, ltb}
 use lib.ListN.{length, getD, set, length-set, length-map}
 use lib.Seq.{set-getD, set-out}
 use Rattle.records.specs.declared.Call.{Call}
+use Rattle.records.specs.declared.Answer.{Answer}
 use Rattle.cells.specs.declared.Cell.{Cell}
-use Rattle.cells.specs.Cells.{cellsOf, withCells, wholeCells}
+use Rattle.cells.specs.Cells.{wholeCells}
 use Rattle.cells.proofs.Words.{length-same}
 use Rattle.steps.specs.declared.State.{State}
 use Rattle.steps.specs.declared.Place.{Place}
 use Rattle.steps.specs.declared.Board.{Board}
-use Rattle.steps.specs.Record.{mostCells, mostStarts, isIdle, idlePlace, placeAt}
+use Rattle.steps.specs.Record.{mostCells, mostStarts, isIdle, idlePlace, openPlace, inState, placeAt, withPlace, withCounts}
 use Rattle.steps.specs.Shape.{held, hasNumber, distinct, counted, each, inShape}
-use Rattle.steps.specs.Step.{Outcome, withPlace, inState, done, step}
+use Rattle.steps.specs.Store.{Store, Outcome, cellsIn, withCellsIn}
+use Rattle.steps.specs.Step.{done, facts, step}
 use Rattle.steps.proofs.Tests.{two, and-both, and-left, and-right, or-neither}
 use Rattle.steps.proofs.Cases.{Cleared, on-step, on-read, on-update}
 
@@ -186,7 +188,7 @@ module _ (b : Board) (words : ℕ) (s : Shape b words) where
 
   module _ (p : ℕ) (i : isIdle (placeAt b p .state) ≡ true) (h : b .starts < mostStarts) where
     abbrev new : Place
-    new = record { state = State.Open; number = b .starts + 1; view = b .commits }
+    new = openPlace (b .starts + 1) (b .commits)
 
     abbrev after : List Place → Board
     after ps = record { places = ps; starts = b .starts + 1; commits = b .commits }
@@ -234,7 +236,7 @@ module _ (b : Board) (words : ℕ) (s : Shape b words) where
 
     -- the place becomes idle, and the commit count grows by one at most
     idle-shape : (c : ℕ) → b .commits ≤ c → c ≤ b .commits + 1
-        → Shape (record { places = set (b .places) p idlePlace; starts = b .starts; commits = c }) words
+        → Shape (withCounts (withPlace b p idlePlace) (b .starts) c) words
     idle-shape c lo hi =
         record {
           whole = s .whole;
@@ -259,24 +261,30 @@ module _ (b : Board) (words : ℕ) (s : Shape b words) where
           within = put-each fits r ∙ sym (put-each fits old) ∙ s .within;
         }
 
-module _ (b : Board) (ws : List ℕ) where
+module _ (st : Store) where
+  abbrev b : Board
+  b = st .board
+
+  abbrev words : ℕ
+  words = length (st .words)
+
   placed : (p : ℕ) (q : Place) → length (set (b .places) p q) ≡ length (b .places)
   placed p q = length-set (b .places) p q
 
-  written : (i : ℕ) (c : Cell) → length (withCells ws (set (cellsOf ws) i c)) ≡ length ws
-  written i c = length-same ws _ (length-set (cellsOf ws) i c)
+  written : (i : ℕ) (c : Cell) → length (withCellsIn st (set (cellsIn st) i c) .words) ≡ words
+  written i c = length-same (st .words) _ (length-set (cellsIn st) i c)
 
-  mapped : (f : Cell → Cell) → length (withCells ws (map f (cellsOf ws))) ≡ length ws
-  mapped f = length-same ws _ (length-map (cellsOf ws) f)
+  mapped : (f : Cell → Cell) → length (withCellsIn st (map f (cellsIn st)) .words) ≡ words
+  mapped f = length-same (st .words) _ (length-map (cellsIn st) f)
 
   abbrev Lengths : Outcome → Type 0
-  Lengths o = (length (o .words) ≡ length ws) × (length (o .board .places) ≡ length (b .places))
+  Lengths o = (length (o .store .words) ≡ words) × (length (o .store .board .places) ≡ length (b .places))
 
-  done-lengths : (call : Call) → Lengths (done b ws call)
+  done-lengths : (call : Call) → Lengths (done st call)
   done-lengths (Call.Start p) = (refl, placed p _)
-  done-lengths (Call.Read p key) = on-read Lengths b ws p key (λ i e. (refl, refl)) (λ e h. (refl, refl)) (λ e h. (refl, refl))
+  done-lengths (Call.Read p key) = on-read Lengths st p key (λ i e. (refl, refl)) (λ e h. (refl, refl)) (λ e h. (refl, refl))
   done-lengths (Call.Update p key value) =
-      on-update Lengths b ws p key value
+      on-update Lengths st p key value
       (λ i e. (written i _, refl))
       (λ e h. (refl, placed p _))
       (λ e h i f. (written i _, refl))
@@ -285,28 +293,26 @@ module _ (b : Board) (ws : List ℕ) where
   done-lengths (Call.Commit p) = (mapped _, placed p _)
   done-lengths (Call.Rollback p) = (mapped _, placed p _)
 
-  pub keeps-lengths : (call : Call)
-      → (length (step b ws call .words) ≡ length ws) × (length (step b ws call .board .places) ≡ length (b .places))
-  keeps-lengths call = on-step Lengths b ws call (λ a e. (refl, refl)) (λ g. done-lengths call)
+  pub keeps-lengths : (call : Call) → Lengths (step st call)
+  keeps-lengths call = on-step Lengths st call (λ a e. (refl, refl)) (λ g. done-lengths call)
 
   abbrev Fits : Outcome → Type 0
-  Fits o = Shape (o .board) (length ws)
+  Fits o = Shape (o .store .board) words
 
-  done-shape : Shape b (length ws) → (call : Call) → Cleared b (length ws) call → Fits (done b ws call)
-  done-shape s (Call.Start p) g = start-shape b (length ws) s p (not-false _ (g .busy)) (leb-false _ _ (g .worn))
-  done-shape s (Call.Read p key) g = on-read Fits b ws p key (λ i e. s) (λ e h. s) (λ e h. s)
+  done-shape : Shape b words → (call : Call) → Cleared (facts st call) → Fits (done st call)
+  done-shape s (Call.Start p) g = start-shape b words s p (not-false _ (g Answer.Busy)) (leb-false _ _ (g Answer.Worn))
+  done-shape s (Call.Read p key) g = on-read Fits st p key (λ i e. s) (λ e h. s) (λ e h. s)
   done-shape s (Call.Update p key value) g =
-      on-update Fits b ws p key value
+      on-update Fits st p key value
       (λ i e. s)
-      (λ e h. turn-shape b (length ws) s p (g .idle) State.Spoiled refl)
+      (λ e h. turn-shape b words s p (g Answer.Idle) State.Spoiled refl)
       (λ e h i f. s)
       (λ e h f. s)
-  done-shape s (Call.Prepare p) g = turn-shape b (length ws) s p (g .idle) State.Prepared refl
-  done-shape s (Call.Commit p) g = idle-shape b (length ws) s p (g .idle) _ (omega arith) (omega arith)
-  done-shape s (Call.Rollback p) g = idle-shape b (length ws) s p (g .idle) _ (omega arith) (omega arith)
+  done-shape s (Call.Prepare p) g = turn-shape b words s p (g Answer.Idle) State.Prepared refl
+  done-shape s (Call.Commit p) g = idle-shape b words s p (g Answer.Idle) _ (omega arith) (omega arith)
+  done-shape s (Call.Rollback p) g = idle-shape b words s p (g Answer.Idle) _ (omega arith) (omega arith)
 
-  pub keeps-shape : (call : Call) → inShape b (length ws) ≡ true
-      → inShape (step b ws call .board) (length (step b ws call .words)) ≡ true
+  pub keeps-shape : (call : Call) → inShape b words ≡ true → inShape (step st call .store .board) (length (step st call .store .words)) ≡ true
   keeps-shape call e =
-      let s = shape-of b (length ws) e in
-      rw (keeps-lengths call .0) (in-shape _ _ (on-step Fits b ws call (λ a _. s) (done-shape s call)))
+      let s = shape-of b words e in
+      rw (keeps-lengths call .0) (in-shape _ _ (on-step Fits st call (λ a _. s) (done-shape s call)))

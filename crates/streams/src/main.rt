@@ -1,5 +1,6 @@
-// Stored streams of call records, served whole and in pieces of several sizes by the functions that the desk uses. A line for each
-// check: the answers are those that are stored beside the stream.
+// Stored streams of call records, served whole and in pieces of several sizes by the calls that the desk makes. A line for each check:
+// the answers are those that are stored beside the stream.
+use lanes::Desk;
 use lanes::Stop;
 use steps::Board;
 ghost use mathlib.Core.Path.{_≡_};
@@ -43,10 +44,11 @@ fn bad_records() {
     stream(b"bad_value", b"bad_value.answers");
 }
 
-// Many calls of every kind; the second ends in a cut record.
+// Many calls of every kind; the second ends in a cut record, the third is longer than a turn's input and has bytes that are no call midway.
 fn long_streams() {
     stream(b"mixed", b"mixed.answers");
     stream(b"mixed_cut", b"mixed_cut.answers");
+    stream(b"bad_midway", b"bad_midway.answers");
 }
 
 // The example served with too little room, with just enough, and with more.
@@ -63,7 +65,7 @@ fn rooms() {
 
 // How far serving gets with room for so many bytes of answers, and why it stops.
 fn with_room(input: &[u8], room: usize) {
-    let mut cells = [0u32; 4 * Board::CELLS];
+    let mut cells = Desk::words();
     let mut answers = io::large_buffer();
     let lent: &mut [u8] = &mut answers;
     if lent.len() < room {
@@ -113,11 +115,11 @@ fn load(name: &[u8], buffer: &mut [u8]) -> usize
 
 // Serves the input in pieces of a size, and compares what was written with the first m bytes of what is stored.
 fn in_pieces(name: &[u8], input: &[u8], size: usize, want: &[u8], m: usize) {
-    let mut cells = [0u32; 4 * Board::CELLS];
-    let mut bytes = io::large_buffer();
-    let mut answers = io::large_buffer();
+    let mut cells = Desk::words();
+    let mut bytes = [0u8; Desk::INPUT];
+    let mut answers = [0u8; Desk::OUTPUT];
     let mut out = io::large_buffer();
-    let written = desk(input, size, &mut cells, &mut bytes, &mut answers, &mut out);
+    let written = run(input, size, &mut cells, &mut bytes, &mut answers, &mut out);
     io::write_all(libc::STDOUT_FILENO, name);
     io::write_all(libc::STDOUT_FILENO, b" in pieces of ");
     io::print_decimal(libc::STDOUT_FILENO, size as u64);
@@ -130,78 +132,33 @@ fn in_pieces(name: &[u8], input: &[u8], size: usize, want: &[u8], m: usize) {
     }
 }
 
-// How far the desk is: the record, how many bytes of the input are read, how many are left over, how many were written.
-struct Way {
-    board: Board,
-    read: usize,
-    left: usize,
-    written: usize,
-    more: bool,
-}
-
-// What the desk does with standard input and output, with bytes in their place: it writes to out, and says how many bytes.
-fn desk(
+// What the desk does with standard input and output, with bytes in their place: it reads pieces of a size, writes to out, and says how
+// many bytes.
+fn run(
     input: &[u8],
     size: usize,
-    cells: &mut [u32],
-    bytes: &mut [u8],
-    answers: &mut [u8],
+    cells: &mut [u32; Desk::WORDS],
+    bytes: &mut [u8; Desk::INPUT],
+    answers: &mut [u8; Desk::OUTPUT],
     out: &mut [u8],
 ) -> usize {
-    let mut way = Way {
-        board: Board::fresh(),
-        read: 0,
-        left: 0,
-        written: 0,
-        more: true,
-    };
+    let mut desk = Desk::fresh();
+    let mut read: usize = 0;
+    let mut written: usize = 0;
     let mut turns = u64::MAX;
     while turns > 0 {
-        way = one_turn(way, input, size, cells, bytes, answers, out);
-        if !way.more {
-            return way.written;
+        let got = copy(input, read, size, bytes, desk.left);
+        let t = desk.turn(cells, bytes, got, answers);
+        let put = copy(answers, 0, t.written, out, written);
+        read = sum(read, got);
+        written = sum(written, put);
+        if !t.goes_on(put == t.written) {
+            return written;
         }
+        desk = t.desk;
         turns -= 1;
     }
-    way.written
-}
-
-// One turn of the desk on the next piece; at the end of the input, what is written for a cut record.
-fn one_turn(
-    way: Way,
-    input: &[u8],
-    size: usize,
-    cells: &mut [u32],
-    bytes: &mut [u8],
-    answers: &mut [u8],
-    out: &mut [u8],
-) -> Way {
-    let got = copy(input, way.read, size, bytes, way.left);
-    if got == 0 {
-        let last = lanes::finish(way.left, answers);
-        return way.wrote(copy(answers, 0, last, out, way.written), 0, false);
-    }
-    let board = way.board;
-    let t = lanes::turn(board, cells, bytes, sum(way.left, got), answers);
-    let put = copy(answers, 0, t.written, out, way.written);
-    let next = t.board;
-    let stop = t.stop;
-    Way {
-        board: next,
-        read: sum(way.read, got),
-        left: 0,
-        written: way.written,
-        more: true,
-    }.wrote(put, t.left, lanes::goes_on(stop))
-}
-
-impl Way {
-    fn wrote(mut self, put: usize, left: usize, more: bool) -> Self {
-        self.written = sum(self.written, put);
-        self.left = left;
-        self.more = more;
-        self
-    }
+    written
 }
 
 // Copies n bytes from an index to an index, as far as there are bytes and room, and says how many.

@@ -268,13 +268,12 @@ pub struct Damaged {
 
 /// A few short streams cut after every byte, and with every byte damaged, left out or put in.
 ///
-/// Every case is served by `serve` on the desk's board, and answers, record and words are compared. What the desk program
-/// adds is its loop around the same `serve`: it reads, keeps what is left of a cut record, and stops. That loop does not look
-/// into a record, so it can go wrong by the length of the input and by where in it the bytes are that are no call, and not
-/// by which they are. So the program gets all the cases that it answers to their end, one behind the other in one run for
-/// each stream; and of the cases at which it stops, each one starting it anew, those of every byte and every kind of damage
-/// once, taken from the streams in turn. (A start takes a twentieth of a second under an emulator.) That wrong loops are
-/// caught by so many is tried out with those in `loops`.
+/// Each case goes through `serve` on the desk's board, and answers, record and words are compared. The desk program is a loop
+/// around the same `serve`: it reads, keeps what is left of a cut record, writes, and stops. It does not look into a record,
+/// so what can go wrong in it hangs on lengths and on where the bytes are that are no call, not on which they are. So the
+/// program gets, in one run for each stream, all the cases that are answered to their end, one behind the other; and of
+/// those that make it stop, each a start of its own and a twentieth of a second under an emulator, one for each byte and
+/// each kind of damage, from the streams in turn. The wrong loops of `loops` are caught by no more than that.
 pub fn damaged(a: &dyn Store, b: &dyn Store, seed: u64, streams: usize) -> Result<Damaged, Difference> {
     let mut rng = Rng::new(seed);
     let mut done = Damaged { cases: 0, starts: 0 };

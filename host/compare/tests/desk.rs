@@ -5,7 +5,7 @@ use compare::loops::{Fault, Loop, FAULTS};
 use compare::store::{desk_program, start};
 use compare::{program, rng, rounds, say, streams, Counts, Proved, Store, Twin};
 use std::fs::{self, File};
-use std::io::{ErrorKind, Write};
+use std::io::{ErrorKind, Read, Write};
 use std::path::{Path, PathBuf};
 use std::process::{Child, ExitStatus, Stdio};
 use std::time::{Duration, Instant};
@@ -55,25 +55,28 @@ fn a_console_that_waits_for_each_answer() {
     streams::waiting(&Twin, 0x1A2E_0006, 300);
 }
 
-/// Loops that are wrong, and one that is right: the comparisons through the desk are made so that they tell them apart.
+/// Loops that are wrong are told from the one that is right, by the streams that the desk program gets above.
 #[test]
 fn wrong_loops_are_caught() {
-    let by = |fault| {
+    let caught_by = |fault| {
         let desk = Loop(fault);
-        let found = [
-            ("damaged streams", streams::damaged(&desk, &Twin, 0x1A2E_0005, 6).err()),
-            ("long streams", streams::long(&desk, &Twin, 0x1A2E_000B).err()),
-        ];
-        let names: Vec<&str> = found.iter().filter(|(_, found)| found.is_some()).map(|(name, _)| *name).collect();
-        names.join(", ")
+        if streams::damaged(&desk, &Twin, 0x1A2E_0005, 6).is_err() {
+            Some("damaged streams")
+        } else if streams::long(&desk, &Twin, 0x1A2E_000B).is_err() {
+            Some("long streams")
+        } else {
+            None
+        }
     };
-    assert_eq!(by(Fault::Nothing), "");
+    assert_eq!(caught_by(Fault::Nothing), None);
     for fault in FAULTS {
-        let by = by(fault);
-        assert!(!by.is_empty(), "nothing caught {fault:?}");
+        let by = caught_by(fault).unwrap_or_else(|| panic!("nothing caught {fault:?}"));
         say(&format!("{by} caught {fault:?}"));
     }
 }
+
+/// A start at place 0.
+const START: [u8; 10] = [0x43, 0x4C, 1, 0, 0, 0, 0, 0, 0, 0];
 
 /// Waits for the end of a desk that is to stop by itself.
 fn ended(mut desk: Child) -> ExitStatus {
@@ -98,19 +101,18 @@ fn a_desk_that_cannot_write_stops() {
         let full = File::options().write(true).open("/dev/full").expect("/dev/full");
         start(program::desk().stdin(Stdio::piped()).stdout(full))
     };
-    let start = [0x43, 0x4C, 1, 0, 0, 0, 0, 0, 0, 0];
     // the input stays open, and nothing comes
     let mut desk = to_full();
     let mut to = desk.stdin.take().expect("piped");
-    to.write_all(&start).expect("the desk reads");
+    to.write_all(&START).expect("the desk reads");
     assert!(ended(desk).success());
-    assert_eq!(to.write_all(&start).unwrap_err().kind(), ErrorKind::BrokenPipe);
+    assert_eq!(to.write_all(&START).unwrap_err().kind(), ErrorKind::BrokenPipe);
     // more comes for as long as the desk reads
     let mut desk = to_full();
     let mut to = desk.stdin.take().expect("piped");
     let begun = Instant::now();
     let refused = loop {
-        if let Err(refused) = to.write_all(&start) {
+        if let Err(refused) = to.write_all(&START) {
             break refused;
         }
         assert!(begun.elapsed() < Duration::from_secs(60), "the desk reads on");
@@ -119,14 +121,16 @@ fn a_desk_that_cannot_write_stops() {
     assert!(ended(desk).success());
 }
 
-/// With LANE_EMULATE=1 it is the emulator that runs, on x86-64 too, where the program alone would run as well.
+/// On x86-64 the program would run without its emulator too, and nobody would see that it was forgotten.
 #[test]
 fn the_desk_runs_behind_the_emulator_if_there_is_one() {
     let mut desk = desk_program();
+    let (mut to, mut from) = (desk.stdin.take().expect("piped"), desk.stdout.take().expect("piped"));
+    to.write_all(&START).expect("the desk reads");
+    from.read_exact(&mut [0; 8]).expect("an answer: it runs");
     let runs = fs::read_link(format!("/proc/{}/exe", desk.id())).expect("/proc");
-    let expected = program::emulator().map_or(PathBuf::from("desk"), PathBuf::from);
-    assert_eq!(runs.file_name(), expected.file_name());
-    drop(desk.stdin.take());
+    assert_eq!(runs.ends_with("target/bin/desk"), program::emulator().is_none(), "{}", runs.display());
+    drop(to);
     assert!(ended(desk).success());
 }
 
@@ -158,9 +162,11 @@ fn the_stored_streams_have_the_twins_answers() {
     let (answers, streams): (Vec<_>, Vec<_>) =
         files.into_iter().partition(|path| path.extension().is_some_and(|e| e == "answers"));
     assert!(!streams.is_empty(), "no stream is stored");
-    let named: Vec<PathBuf> = streams.iter().map(|path| path.with_extension("answers")).collect();
-    assert_eq!(named, answers, "(streams with their answers, answers)");
-    streams.iter().zip(&answers).for_each(|(input, answers)| same_as_stored(input, answers));
+    let answers_of = |input: &PathBuf| PathBuf::from(format!("{}.answers", input.display()));
+    for path in &answers {
+        assert!(streams.iter().any(|input| answers_of(input) == *path), "{} has no stream", path.display());
+    }
+    streams.iter().for_each(|input| same_as_stored(input, &answers_of(input)));
     say(&format!("stored streams: {}", streams.len()));
 }
 

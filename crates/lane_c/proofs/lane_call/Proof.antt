@@ -5,27 +5,6 @@ use Rattle.lane_c.proofs.Calls.{lane-good, lane-record}
 use Rattle.lane_c.proofs.lane_call.Statement.{statement}
 use Rattle.lane_c.proofs.lane_call.Tie as tie
 
-call-named-requires : tie.Need-call-named-requires
-call-named-requires c κs = search needs
-
-enum-known-call : tie.Need-enum-known-call
-enum-known-call c = search needs
-
-step-on-words-requires : tie.Need-step-on-words-requires
-step-on-words-requires c κs = search needs
-
-enum-told : tie.Need-enum-told
-enum-told c = search needs
-
-answer-word-requires : tie.Need-answer-word-requires
-answer-word-requires c κs = search needs
-
-same-length : tie.Need-same-length
-same-length c = search needs
-
-same-length-2 : tie.Need-same-length-2
-same-length-2 c = search needs
-
 returns : tie.Need-returns
 returns c =
     let done = c .before .before .before .before in
@@ -41,12 +20,12 @@ pub lane-call-spec : {M : Type 1} → statement M
 lane-call-spec =
     tie.close
     (tie.spec
-    call-named-requires
-    enum-known-call
-    step-on-words-requires
-    enum-told
-    answer-word-requires
-    same-length
-    same-length-2
+    (λ c κs. search needs)
+    (λ c. search needs)
+    (λ c κs. search needs)
+    (λ c. search needs)
+    (λ c κs. search needs)
+    (λ c. search needs)
+    (λ c. search needs)
     returns
     returns-2)

@@ -14,35 +14,14 @@ use Rattle.lane_c.proofs.lane_serve.Tie as tie
 fit : (c : tie.Else1) → wellFormed (now (c .before .before .before .before .before .before .before .args .words)) ≡ true
 fit c = sym (c .before .well-formed .ensures) ∙ not-false _ (c .if1 .left)
 
-well-formed-requires : tie.Need-well-formed-requires
-well-formed-requires c κs = search needs
-
-same-length : tie.Need-same-length
-same-length c = search needs
-
 returns : tie.Need-returns
 returns c = serve-board _ _ _ _ (sym (c .before .well-formed .ensures) ∙ not-true _ (c .if1 .taken))
 
 load-requires : tie.Need-load-requires
 load-requires c κs = well-length _ (fit (c .before))
 
-serve-requires : tie.Need-serve-requires
-serve-requires c κs = search needs
-
 save-requires : tie.Need-save-requires
 save-requires c κs = well-length _ (fit (c .before .before .before .before .before .before .before .before .before .before .before))
-
-why-of-requires : tie.Need-why-of-requires
-why-of-requires c κs = search needs
-
-same-length-2 : tie.Need-same-length-2
-same-length-2 c = search needs
-
-same-length-3 : tie.Need-same-length-3
-same-length-3 c = search needs
-
-same-length-4 : tie.Need-same-length-4
-same-length-4 c = search needs
 
 returns-2 : tie.Need-returns-2
 returns-2 c =
@@ -56,14 +35,14 @@ pub lane-serve-spec : {M : Type 1} → statement M
 lane-serve-spec =
     tie.close
     (tie.spec
-    well-formed-requires
-    same-length
+    (λ c κs. search needs)
+    (λ c. search needs)
     returns
     load-requires
-    serve-requires
+    (λ c κs. search needs)
     save-requires
-    why-of-requires
-    same-length-2
-    same-length-3
-    same-length-4
+    (λ c κs. search needs)
+    (λ c. search needs)
+    (λ c. search needs)
+    (λ c. search needs)
     returns-2)

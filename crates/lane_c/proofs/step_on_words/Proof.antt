@@ -14,15 +14,6 @@ use Rattle.lane_c.proofs.step_on_words.Tie as tie
 fit : (c : tie.Else1) → wellFormed (now (c .before .before .before .before .before .args .words)) ≡ true
 fit c = sym (c .before .well-formed .ensures) ∙ not-false _ (c .if1 .left)
 
-well-formed-requires : tie.Need-well-formed-requires
-well-formed-requires c κs = search needs
-
-answer-word-requires : tie.Need-answer-word-requires
-answer-word-requires c κs = search needs
-
-same-length : tie.Need-same-length
-same-length c = search needs
-
 returns : tie.Need-returns
 returns c =
     step-board _ _ _ _ (sym (c .before .before .well-formed .ensures) ∙ not-true _ (c .before .if1 .taken))
@@ -31,20 +22,8 @@ returns c =
 load-requires : tie.Need-load-requires
 load-requires c κs = well-length _ (fit (c .before))
 
-call-requires : tie.Need-call-requires
-call-requires c κs = search needs
-
 save-requires : tie.Need-save-requires
 save-requires c κs = well-length _ (fit (c .before .before .before .before .before .before .before .before))
-
-answer-word-requires-2 : tie.Need-answer-word-requires-2
-answer-word-requires-2 c κs = search needs
-
-same-length-2 : tie.Need-same-length-2
-same-length-2 c = search needs
-
-same-length-3 : tie.Need-same-length-3
-same-length-3 c = search needs
 
 returns-2 : tie.Need-returns-2
 returns-2 c =
@@ -58,14 +37,14 @@ pub step-on-words-spec : {M : Type 1} → statement M
 step-on-words-spec =
     tie.close
     (tie.spec
-    well-formed-requires
-    answer-word-requires
-    same-length
+    (λ c κs. search needs)
+    (λ c κs. search needs)
+    (λ c. search needs)
     returns
     load-requires
-    call-requires
+    (λ c κs. search needs)
     save-requires
-    answer-word-requires-2
-    same-length-2
-    same-length-3
+    (λ c κs. search needs)
+    (λ c. search needs)
+    (λ c. search needs)
     returns-2)

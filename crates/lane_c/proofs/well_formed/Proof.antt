@@ -1,21 +1,22 @@
--- `lane_c::well_formed` meets its contract. The loop's invariant: the answer is what the state words left say. Assumes nothing.
+-- `lane_c::well_formed` meets its contract. The invariant: the answer is what the places left say. Assumes nothing.
 use borrow.Author.Needs.{needs}
-use borrow.Author.Tests.{eq-eqb, ne-eqb}
-use mathlib.Core.Path.{_≡_, sym, _∙_}
-use Prim.Native.Nat.{_*_, _-_, _≤_}
-use native.Mathlib.Omega.{arith}
-use lib.ListN.{length, drop, length-drop}
-use denote.Ref.{now}
-use Rattle.lane_c.specs.Words.{recordWords, statesFit, wellFormed}
-use Rattle.lane_c.proofs.Words.{states-on, states-off, states-none}
+use borrow.Author.Tests.{eq-eqb, ne-eqb, not-true, not-false}
+use mathlib.Core.Path.{_≡_, sym, ap, _∙_}
+use mathlib.Core.Bool.{Bool, _&&_}
+use Prim.Native.Nat.{_+_, _-_, _≤_}
+use lib.ListN.{length, drop}
+use Rattle.steps.specs.Record.{allPlaces}
+use Rattle.lane_c.specs.Words.{placeWords, recordWords, placeFits, each, placeBlocks, wellFormed}
+use Rattle.lane_c.proofs.Blocks.{each-left, each-none}
 use Rattle.lane_c.proofs.well_formed.Statement.{statement}
 use Rattle.lane_c.proofs.well_formed.Tie as tie
 
 abbrev Inv-loop : tie.InvT-loop
-Inv-loop words i₀ i = (i ≤ 16) × ((length words ≡ recordWords) × (wellFormed words ≡ statesFit (drop (3 * i) words)))
+Inv-loop words i₀ i =
+    (i ≤ allPlaces) × ((length words ≡ recordWords) × (wellFormed words ≡ each placeFits (drop i (placeBlocks words))))
 
 abbrev μ-loop : tie.MeasureT-loop
-μ-loop words i₀ i = 16 - i
+μ-loop words i₀ i = allPlaces - i
 
 returns : tie.Need-returns Inv-loop μ-loop
 unfolding wellFormed
@@ -25,38 +26,24 @@ loop-holds : tie.Need-loop-holds Inv-loop μ-loop
 unfolding wellFormed
 loop-holds c = (search needs, (c .if1 .left, simp (eq-eqb _ _ (c .if1 .left))))
 
-mul-at : tie.Need-mul-at Inv-loop μ-loop
-mul-at c = search needs
-
-mul-if2 : tie.Need-mul-if2 Inv-loop μ-loop
-mul-if2 c = search needs
-
-shared-slice-read-if2 : tie.Need-shared-slice-read-if2 Inv-loop μ-loop
-shared-slice-read-if2 c = search needs
-
-returns-2 : tie.Need-returns-2 Inv-loop μ-loop
-returns-2 c =
-    let ws = c .before .before .before .before .before .args .words .now in
-    let inv = c .before .before .before .loop .inv in
-    sym (inv .1 .1 ∙ states-off ws (c .before .before .before .loop .i) (search needs) (c .if2 .taken))
-
-add-i : tie.Need-add-i Inv-loop μ-loop
-add-i c = search needs
-
-loop-less : tie.Need-loop-less Inv-loop μ-loop
-loop-less c = search needs
+-- the answer by the place that a turn looks at
+turn : (c : tie.After-place-fits Inv-loop μ-loop) {t : Bool} → c .place-fits .result ≡ t
+    → wellFormed (c .before .before .before .before .before .before .args .words .now)
+    ≡ (t && each placeFits (drop (c .before .before .before .loop .i + 1) (placeBlocks (c .before .before .before .before .before .before .args .words .now))))
+turn c e =
+    let at = c .before .before .before in
+    at .loop .inv .1 .1
+    ∙ each-left placeWords placeFits allPlaces (at .before .before .before .args .words .now) (at .loop .i) (search needs)
+    (ap placeFits (sym (c .before .words-at .ensures .0)) ∙ sym (c .place-fits .ensures) ∙ e)
 
 loop-again : tie.Need-loop-again Inv-loop μ-loop
 loop-again c =
-    let ws = c .before .before .before .before .before .args .words .now in
-    let inv = c .before .before .before .loop .inv in
-    (search needs, (inv .1 .0, inv .1 .1 ∙ states-on ws (c .before .before .before .loop .i) (search needs) (c .if2 .left)))
+    (search needs, (c .before .before .before .before .loop .inv .1 .0, turn (c .before) (not-false _ (c .if2 .left))))
 
 returns-3 : tie.Need-returns-3 Inv-loop μ-loop
 returns-3 c =
-    let ws = c .before .before .before .args .words .now in
-    let i = c .before .loop .i in
-    sym (c .before .loop .inv .1 .1 ∙ states-none (drop (3 * i) ws) (omega (arith, length-drop (3 * i) ws)))
+    let at = c .before in
+    sym (at .loop .inv .1 .1 ∙ each-none placeWords placeFits allPlaces (at .before .before .before .args .words .now) (at .loop .i) (search needs))
 
 pub well-formed-spec : {M : Type 1} → statement M
 well-formed-spec =
@@ -66,11 +53,10 @@ well-formed-spec =
     μ-loop
     returns
     loop-holds
-    mul-at
-    mul-if2
-    shared-slice-read-if2
-    returns-2
-    add-i
-    loop-less
+    (λ c κs. search needs)
+    (λ c κs. search needs)
+    (λ c. sym (turn (c .before) (not-true _ (c .if2 .taken))))
+    (λ c. search needs)
+    (λ c. search needs)
     loop-again
     returns-3)

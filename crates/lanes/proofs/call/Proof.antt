@@ -1,131 +1,75 @@
 -- `call` meets its contract: the call is the one that its arm takes apart, and the step's contract is `step` of that call.
 -- Assumes nothing.
 use mathlib.Core.Path.{_≡_, sym, ap, _∙_}
-use mathlib.Core.List.{List}
-use Prim.Native.Nat.{ℕ}
 use denote.Ref.{now}
 use Rattle.records.specs.declared.Call.{Call}
-use Rattle.steps.specs.declared.Board.{Board}
-use Rattle.steps.specs.Step.{Outcome, step}
+use Rattle.steps.specs.Store.{Store, Outcome, lent}
+use Rattle.steps.specs.Step.{step}
 use borrow.Author.Needs.{needs}
 use Rattle.lanes.proofs.call.Statement.{statement}
 use Rattle.lanes.proofs.call.Tie as tie
 
-done : (b : Board) (ws : List ℕ) {o : Outcome} {named call : Call} → o ≡ step b ws named → call ≡ named → o ≡ step b ws call
-done b ws e h = e ∙ ap (step b ws) (sym h)
-
-enum-known-call : tie.Need-enum-known-call
-enum-known-call c = search needs
-
-start-requires : tie.Need-start-requires
-start-requires c κs = search needs
-
-enum-known-call-2 : tie.Need-enum-known-call-2
-enum-known-call-2 c = search needs
-
-read-requires : tie.Need-read-requires
-read-requires c κs = search needs
-
-enum-known-call-3 : tie.Need-enum-known-call-3
-enum-known-call-3 c = search needs
-
-update-requires : tie.Need-update-requires
-update-requires c κs = search needs
-
-enum-known-call-4 : tie.Need-enum-known-call-4
-enum-known-call-4 c = search needs
-
-prepare-requires : tie.Need-prepare-requires
-prepare-requires c κs = search needs
-
-enum-known-call-5 : tie.Need-enum-known-call-5
-enum-known-call-5 c = search needs
-
-commit-requires : tie.Need-commit-requires
-commit-requires c κs = search needs
-
-enum-known-call-6 : tie.Need-enum-known-call-6
-enum-known-call-6 c = search needs
-
-rollback-requires : tie.Need-rollback-requires
-rollback-requires c κs = search needs
-
-same-length : tie.Need-same-length
-same-length c = search needs
+done : (st : Store) {o : Outcome} {named call : Call} → o ≡ step st named → call ≡ named → o ≡ step st call
+done st e h = e ∙ ap (step st) (sym h)
 
 returns : tie.Need-returns
 returns c =
     let m = c .before .before .before in
-    done (m .before .before .before .args .board) (now (m .before .before .before .args .cells)) (c .start .ensures) (m .call .given .1)
-
-same-length-2 : tie.Need-same-length-2
-same-length-2 c = search needs
+    done (lent (m .before .before .before .args .board) (now (m .before .before .before .args .cells))) (c .start .ensures) (m .call .given .1)
 
 returns-2 : tie.Need-returns-2
 returns-2 c =
     let m = c .before .before .before in
-    done (m .before .before .before .args .board) (now (m .before .before .before .args .cells)) (c .read .ensures) (m .call2 .given .1)
-
-same-length-3 : tie.Need-same-length-3
-same-length-3 c = search needs
+    done (lent (m .before .before .before .args .board) (now (m .before .before .before .args .cells))) (c .read .ensures) (m .call2 .given .1)
 
 returns-3 : tie.Need-returns-3
 returns-3 c =
     let f = c .before .before in
     let m = f .before .before .before in
-    done (m .before .before .before .args .board) (now (m .before .before .before .args .cells)) (f .update .ensures) (m .call3 .given .1)
-
-same-length-4 : tie.Need-same-length-4
-same-length-4 c = search needs
+    done (lent (m .before .before .before .args .board) (now (m .before .before .before .args .cells))) (f .update .ensures) (m .call3 .given .1)
 
 returns-4 : tie.Need-returns-4
 returns-4 c =
     let m = c .before .before .before in
-    done (m .before .before .before .args .board) (now (m .before .before .before .args .cells)) (c .prepare .ensures) (m .call4 .given .1)
-
-same-length-5 : tie.Need-same-length-5
-same-length-5 c = search needs
+    done (lent (m .before .before .before .args .board) (now (m .before .before .before .args .cells))) (c .prepare .ensures) (m .call4 .given .1)
 
 returns-5 : tie.Need-returns-5
 returns-5 c =
     let f = c .before .before in
     let m = f .before .before .before in
-    done (m .before .before .before .args .board) (now (m .before .before .before .args .cells)) (f .commit .ensures) (m .call5 .given .1)
-
-same-length-6 : tie.Need-same-length-6
-same-length-6 c = search needs
+    done (lent (m .before .before .before .args .board) (now (m .before .before .before .args .cells))) (f .commit .ensures) (m .call5 .given .1)
 
 returns-6 : tie.Need-returns-6
 returns-6 c =
     let f = c .before .before in
     let m = f .before .before .before in
-    done (m .before .before .before .args .board) (now (m .before .before .before .args .cells)) (f .rollback .ensures) (m .call6 .given .1)
+    done (lent (m .before .before .before .args .board) (now (m .before .before .before .args .cells))) (f .rollback .ensures) (m .call6 .given .1)
 
 pub call-spec : {M : Type 1} → statement M
 call-spec =
     tie.close
     (tie.spec
-    enum-known-call
-    start-requires
-    enum-known-call-2
-    read-requires
-    enum-known-call-3
-    update-requires
-    enum-known-call-4
-    prepare-requires
-    enum-known-call-5
-    commit-requires
-    enum-known-call-6
-    rollback-requires
-    same-length
+    (λ c. search needs)
+    (λ c κs. search needs)
+    (λ c. search needs)
+    (λ c κs. search needs)
+    (λ c. search needs)
+    (λ c κs. search needs)
+    (λ c. search needs)
+    (λ c κs. search needs)
+    (λ c. search needs)
+    (λ c κs. search needs)
+    (λ c. search needs)
+    (λ c κs. search needs)
+    (λ c. search needs)
     returns
-    same-length-2
+    (λ c. search needs)
     returns-2
-    same-length-3
+    (λ c. search needs)
     returns-3
-    same-length-4
+    (λ c. search needs)
     returns-4
-    same-length-5
+    (λ c. search needs)
     returns-5
-    same-length-6
+    (λ c. search needs)
     returns-6)

@@ -9,6 +9,7 @@ use borrow.Author.Tests.{not-true, not-false}
 use denote.Ref.{now}
 use lib.ListN.{length}
 use Rattle.records.specs.Format.{callBytes, answerBytes}
+use Rattle.steps.specs.Store.{lent}
 use Rattle.lanes.specs.declared.Stop.{Stop}
 use Rattle.lanes.specs.Serve.{serveInto}
 use Rattle.lanes.proofs.Rest.{rest, lastStop, rest-whole, rest-none, turn-good, turn-bad}
@@ -20,25 +21,22 @@ Inv-loop cells₀ calls answers₀ whole records next₀ i₀ cells answers next
     (i ≤ records)
     × (length cells ≡ length cells₀)
     × (length answers ≡ length answers₀)
-    × (rest records 0 (lastStop calls records) next₀ cells₀ calls answers₀
-    ≡ rest (records - i) i (lastStop calls records) next cells calls answers)
+    × (rest records 0 (lastStop calls records) (lent next₀ cells₀) calls answers₀
+    ≡ rest (records - i) i (lastStop calls records) (lent next cells) calls answers)
 
 abbrev μ-loop : tie.MeasureT-loop
 μ-loop cells₀ calls answers₀ whole records next₀ i₀ cells answers next i = records - i
 
-least-requires : tie.Need-least-requires Inv-loop μ-loop
-least-requires c κs = search needs
-
 -- serving it all is what is left before the first record
 whole-is : (c : tie.After-least Inv-loop μ-loop) →
     let s = c .before .before .before .before .args in
-    serveInto (s .board) (now (s .cells)) (now (s .calls)) (now (s .answers))
-    ≡ rest (c .least .result) 0 (lastStop (now (s .calls)) (c .least .result)) (s .board) (now (s .cells)) (now (s .calls))
+    serveInto (lent (s .board) (now (s .cells))) (now (s .calls)) (now (s .answers))
+    ≡ rest (c .least .result) 0 (lastStop (now (s .calls)) (c .least .result)) (lent (s .board) (now (s .cells))) (now (s .calls))
     (now (s .answers))
 whole-is c =
     let s = c .before .before .before .before .args in
-    rest-whole (s .board) (now (s .cells)) (now (s .calls)) (now (s .answers))
-    ∙ ap (λ (n : ℕ). rest n 0 (lastStop (now (s .calls)) n) (s .board) (now (s .cells)) (now (s .calls)) (now (s .answers)))
+    rest-whole (lent (s .board) (now (s .cells))) (now (s .calls)) (now (s .answers))
+    ∙ ap (λ (n : ℕ). rest n 0 (lastStop (now (s .calls)) n) (lent (s .board) (now (s .cells))) (now (s .calls)) (now (s .answers)))
     (sym (c .least .ensures))
 
 loop-holds : tie.Need-loop-holds Inv-loop μ-loop
@@ -48,32 +46,8 @@ loop-holds c =
       search needs,
       search needs,
       search needs,
-      ap (λ (n : ℕ). rest n 0 last (s .board) (now (s .cells)) (now (s .calls)) (now (s .answers))) (sym (sub-zero (c .least .result))),
+      ap (λ (n : ℕ). rest n 0 last (lent (s .board) (now (s .cells))) (now (s .calls)) (now (s .answers))) (sym (sub-zero (c .least .result))),
     )
-
-mul-answer-at : tie.Need-mul-answer-at Inv-loop μ-loop
-mul-answer-at c = search needs
-
-mul-answer-at-2 : tie.Need-mul-answer-at-2 Inv-loop μ-loop
-mul-answer-at-2 c = search needs
-
-answer-at-requires : tie.Need-answer-at-requires Inv-loop μ-loop
-answer-at-requires c κs = search needs
-
-mul-t19 : tie.Need-mul-t19 Inv-loop μ-loop
-mul-t19 c = search needs
-
-add-t20 : tie.Need-add-t20 Inv-loop μ-loop
-add-t20 c = search needs
-
-mul-t21 : tie.Need-mul-t21 Inv-loop μ-loop
-mul-t21 c = search needs
-
-same-length : tie.Need-same-length Inv-loop μ-loop
-same-length c = search needs
-
-same-length-2 : tie.Need-same-length-2 Inv-loop μ-loop
-same-length-2 c = search needs
 
 returns : tie.Need-returns Inv-loop μ-loop
 returns c =
@@ -84,15 +58,9 @@ returns c =
     let here : l .loop .i < n = omega arith in
     sym (whole-is (l .before)
     ∙ l .loop .inv .3
-    ∙ turn-bad n (l .loop .i) here (lastStop (now (s .calls)) n) (l .loop .next) (l .loop .cells) (now (s .calls)) (l .loop .answers)
+    ∙ turn-bad n (l .loop .i) here (lastStop (now (s .calls)) n) (lent (l .loop .next) (l .loop .cells)) (now (s .calls)) (l .loop .answers)
     (a .answer-at .result) (a .answer-at .last .1 .0) (a .answer-at .last .1 .1 .1 .1 .0) (a .answer-at .ensures)
     (not-true (a .answer-at .result .good) (c .if1 .taken)))
-
-add-i : tie.Need-add-i Inv-loop μ-loop
-add-i c = search needs
-
-loop-less : tie.Need-loop-less Inv-loop μ-loop
-loop-less c = search needs
 
 loop-again : tie.Need-loop-again Inv-loop μ-loop
 loop-again c =
@@ -106,25 +74,10 @@ loop-again c =
       search needs,
       search needs,
       l .loop .inv .3
-          ∙ turn-good n (l .loop .i) here (lastStop (now (s .calls)) n) (l .loop .next) (l .loop .cells) (now (s .calls)) (l .loop .answers)
+          ∙ turn-good n (l .loop .i) here (lastStop (now (s .calls)) n) (lent (l .loop .next) (l .loop .cells)) (now (s .calls)) (l .loop .answers)
           (a .answer-at .result) (a .answer-at .last .1 .0) (a .answer-at .last .1 .1 .1 .1 .0) (a .answer-at .ensures)
           room (not-false (a .answer-at .result .good) (c .if1 .left)),
     )
-
-mul-t10 : tie.Need-mul-t10 Inv-loop μ-loop
-mul-t10 c = search needs
-
-mul-t11 : tie.Need-mul-t11 Inv-loop μ-loop
-mul-t11 c = search needs
-
-last-stop-requires : tie.Need-last-stop-requires Inv-loop μ-loop
-last-stop-requires c κs = search needs
-
-same-length-3 : tie.Need-same-length-3 Inv-loop μ-loop
-same-length-3 c = search needs
-
-same-length-4 : tie.Need-same-length-4 Inv-loop μ-loop
-same-length-4 c = search needs
 
 returns-2 : tie.Need-returns-2 Inv-loop μ-loop
 returns-2 c =
@@ -136,11 +89,10 @@ returns-2 c =
     let none : n - l .loop .i ≡ 0 = omega arith in
     sym (whole-is (l .before)
     ∙ l .loop .inv .3
-    ∙ (λ i. rest (none i) (done i) last (l .loop .next) (l .loop .cells) (now (s .calls)) (l .loop .answers))
-    ∙ rest-none n last (l .loop .next) (l .loop .cells) (now (s .calls)) (l .loop .answers)
+    ∙ (λ i. rest (none i) (done i) last (lent (l .loop .next) (l .loop .cells)) (now (s .calls)) (l .loop .answers))
+    ∙ rest-none n last (lent (l .loop .next) (l .loop .cells)) (now (s .calls)) (l .loop .answers)
     ∙ ap (λ (stop : Stop). record {
-      board = l .loop .next;
-      words = l .loop .cells;
+      store = lent (l .loop .next) (l .loop .cells);
       answers = l .loop .answers;
       taken = callBytes * n;
       written = answerBytes * n;
@@ -153,23 +105,23 @@ serve-spec =
     (tie.spec
     Inv-loop
     μ-loop
-    least-requires
+    (λ c κs. search needs)
     loop-holds
-    mul-answer-at
-    mul-answer-at-2
-    answer-at-requires
-    mul-t19
-    add-t20
-    mul-t21
-    same-length
-    same-length-2
+    (λ c. search needs)
+    (λ c. search needs)
+    (λ c κs. search needs)
+    (λ c. search needs)
+    (λ c. search needs)
+    (λ c. search needs)
+    (λ c. search needs)
+    (λ c. search needs)
     returns
-    add-i
-    loop-less
+    (λ c. search needs)
+    (λ c. search needs)
     loop-again
-    mul-t10
-    mul-t11
-    last-stop-requires
-    same-length-3
-    same-length-4
+    (λ c. search needs)
+    (λ c. search needs)
+    (λ c κs. search needs)
+    (λ c. search needs)
+    (λ c. search needs)
     returns-2)

@@ -25,21 +25,6 @@ loop-holds : tie.Need-loop-holds Inv-loop μ-loop
 unfolding heldBack
 loop-holds c = (search needs, refl)
 
-mul-p : tie.Need-mul-p Inv-loop μ-loop
-mul-p c = search needs
-
-array-copy-out-p : tie.Need-array-copy-out-p Inv-loop μ-loop
-array-copy-out-p c = search needs
-
-add-j : tie.Need-add-j Inv-loop μ-loop
-add-j c = search needs
-
-is-prepared-requires : tie.Need-is-prepared-requires Inv-loop μ-loop
-is-prepared-requires c κs = search needs
-
-loop-less : tie.Need-loop-less Inv-loop μ-loop
-loop-less c = search needs
-
 loop-again : tie.Need-loop-again Inv-loop μ-loop
 loop-again c =
     let l = c .before .before .before .before in
@@ -48,9 +33,6 @@ loop-again c =
     let q = holdsBack (a .key) (a .number) (cellsOf (a .cells .now)) in
     let e = sym (c .before .is-prepared .ensures) ∙ not-true _ (c .if1 .taken) in
     (search needs, l .loop .inv .1 ∙ place-turn q (a .t2) (l .loop .j) (omega arith) (and-is e refl))
-
-foreign-with-requires : tie.Need-foreign-with-requires Inv-loop μ-loop
-foreign-with-requires c κs = search needs
 
 returns : tie.Need-returns Inv-loop μ-loop
 returns c =
@@ -61,9 +43,6 @@ returns c =
     let prepared = sym (c .before .before .before .is-prepared .ensures) ∙ not-false _ (c .before .before .if1 .left) in
     let e = and-is prepared (sym (c .before .foreign-with .ensures) ∙ c .if2 .taken) in
     sym (l .loop .inv .1 ∙ place-turn q (a .t2) (l .loop .j) (omega arith) e)
-
-loop-less-2 : tie.Need-loop-less-2 Inv-loop μ-loop
-loop-less-2 c = search needs
 
 loop-again-2 : tie.Need-loop-again-2 Inv-loop μ-loop
 loop-again-2 c =
@@ -89,14 +68,14 @@ held-back-spec =
     Inv-loop
     μ-loop
     loop-holds
-    mul-p
-    array-copy-out-p
-    add-j
-    is-prepared-requires
-    loop-less
+    (λ c. search needs)
+    (λ c. search needs)
+    (λ c. search needs)
+    (λ c κs. search needs)
+    (λ c. search needs)
     loop-again
-    foreign-with-requires
+    (λ c κs. search needs)
     returns
-    loop-less-2
+    (λ c. search needs)
     loop-again-2
     returns-2)

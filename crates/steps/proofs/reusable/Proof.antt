@@ -99,35 +99,14 @@ kept-or-free c h e =
     let old = sym (tables-tell cs x (filled c) .outdated) ∙ sym told ∙ sym (c .before .outdated-by .ensures) ∙ not-false _ (c .if3 .left) in
     free-is (a .t2) cs x (filled c) (sym (c .before .before .before .before .committed .ensures) ∙ not-false _ (c .before .before .before .if2 .left)) old e
 
-count-requires : tie.Need-count-requires Inv-places μ-places Inv-cells μ-cells
-count-requires c κs = search needs
-
-oldest-open-requires : tie.Need-oldest-open-requires Inv-places μ-places Inv-cells μ-cells
-oldest-open-requires c κs = search needs
-
-mul-oldest : tie.Need-mul-oldest Inv-places μ-places Inv-cells μ-cells
-mul-oldest c = search needs
-
 array-copy-out-oldest : tie.Need-array-copy-out-oldest Inv-places μ-places Inv-cells μ-cells
 array-copy-out-oldest c =
     let h : length (c .before .before .before .args .t2) ≡ allPlaces = search needs in
     omega (arith, c .oldest-open .ensures .inside)
 
-tops-of-requires : tie.Need-tops-of-requires Inv-places μ-places Inv-cells μ-cells
-tops-of-requires c κs = search needs
-
 cells-holds : tie.Need-cells-holds Inv-places μ-places Inv-cells μ-cells
 unfolding reusable
 cells-holds c = (search needs, refl)
-
-cell-at-requires : tie.Need-cell-at-requires Inv-places μ-places Inv-cells μ-cells
-cell-at-requires c κs = search needs
-
-add-i : tie.Need-add-i Inv-places μ-places Inv-cells μ-cells
-add-i c = search needs
-
-empty-requires : tie.Need-empty-requires Inv-places μ-places Inv-cells μ-cells
-empty-requires c κs = search needs
 
 returns : tie.Need-returns Inv-places μ-places Inv-cells μ-cells
 returns c =
@@ -136,12 +115,6 @@ returns c =
     let e = sym (c .before .«empty» .ensures) ∙ c .if1 .taken in
     here k (free-is (a .t2) (cellsOf (a .cells .now)) (k .cell-at .result) e refl refl refl)
 
-committed-requires : tie.Need-committed-requires Inv-places μ-places Inv-cells μ-cells
-committed-requires c κs = search needs
-
-cells-less : tie.Need-cells-less Inv-places μ-places Inv-cells μ-cells
-cells-less c = search needs
-
 cells-again : tie.Need-cells-again Inv-places μ-places Inv-cells μ-cells
 cells-again c =
     let k = c .before .before .before .before in
@@ -149,12 +122,6 @@ cells-again c =
     let e = sym (c .before .before .before .«empty» .ensures) ∙ c .before .before .if1 .left in
     let f = sym (c .before .committed .ensures) ∙ not-true _ (c .if2 .taken) in
     (search needs, next k (free-is (a .t2) (cellsOf (a .cells .now)) (k .cell-at .result) e f refl refl))
-
-outdated-by-requires : tie.Need-outdated-by-requires Inv-places μ-places Inv-cells μ-cells
-outdated-by-requires c κs = search needs
-
-cells-less-2 : tie.Need-cells-less-2 Inv-places μ-places Inv-cells μ-cells
-cells-less-2 c = search needs
 
 cells-again-2 : tie.Need-cells-again-2 Inv-places μ-places Inv-cells μ-cells
 cells-again-2 c =
@@ -167,9 +134,6 @@ cells-again-2 c =
     let told = ap (λ (t : Tops). outdatedBy (t .all) cs x) (k .before .before .before .before .before .tops-of .ensures) in
     let g = sym (tables-tell cs x e .outdated) ∙ sym told ∙ sym (c .before .outdated-by .ensures) ∙ not-true _ (c .if3 .taken) in
     (search needs, next k (free-is (a .t2) cs x e f g refl))
-
-surpassed-requires : tie.Need-surpassed-requires Inv-places μ-places Inv-cells μ-cells
-surpassed-requires c κs = search needs
 
 returns-2 : tie.Need-returns-2 Inv-places μ-places Inv-cells μ-cells
 returns-2 c =
@@ -185,15 +149,6 @@ returns-2 c =
     let e = sym told ∙ sym (c .before .surpassed .ensures) ∙ c .if4 .taken in
     let past = and-right (ltb (x .word) allTops) (hasCell (between x view) cs) (sym (tables-tell cs x (filled old) .surpassed view) ∙ e) in
     here k (kept-or-free old false (none-keep (a .t2) (o .result) (o .ensures) h cs x past))
-
-is-open-requires : tie.Need-is-open-requires Inv-places μ-places Inv-cells μ-cells
-is-open-requires c κs = search needs
-
-held-by-requires : tie.Need-held-by-requires Inv-places μ-places Inv-cells μ-cells
-held-by-requires c κs = search needs
-
-cells-less-3 : tie.Need-cells-less-3 Inv-places μ-places Inv-cells μ-cells
-cells-less-3 c = search needs
 
 cells-again-3 : tie.Need-cells-again-3 Inv-places μ-places Inv-cells μ-cells
 cells-again-3 c =
@@ -217,21 +172,6 @@ cells-again-3 c =
 places-holds : tie.Need-places-holds Inv-places μ-places Inv-cells μ-cells
 places-holds c = (search needs, refl)
 
-mul-p : tie.Need-mul-p Inv-places μ-places Inv-cells μ-cells
-mul-p c = search needs
-
-array-copy-out-p : tie.Need-array-copy-out-p Inv-places μ-places Inv-cells μ-cells
-array-copy-out-p c = search needs
-
-add-j : tie.Need-add-j Inv-places μ-places Inv-cells μ-cells
-add-j c = search needs
-
-is-open-requires-2 : tie.Need-is-open-requires-2 Inv-places μ-places Inv-cells μ-cells
-is-open-requires-2 c κs = search needs
-
-places-less : tie.Need-places-less Inv-places μ-places Inv-cells μ-cells
-places-less c = search needs
-
 places-again : tie.Need-places-again Inv-places μ-places Inv-cells μ-cells
 places-again c =
     let m = c .before .before .before .before in
@@ -241,12 +181,6 @@ places-again c =
     let q = keepsAt (cellsOf (a .cells .now)) (k .cell-at .result) in
     let e = sym (c .before .is-open2 .ensures) ∙ not-true _ (c .if6 .taken) in
     (search needs, m .places .inv .1 ∙ place-turn q (a .t2) (m .places .j) (omega arith) (and-is e refl))
-
-kept-requires : tie.Need-kept-requires Inv-places μ-places Inv-cells μ-cells
-kept-requires c κs = search needs
-
-cells-less-4 : tie.Need-cells-less-4 Inv-places μ-places Inv-cells μ-cells
-cells-less-4 c = search needs
 
 cells-again-4 : tie.Need-cells-again-4 Inv-places μ-places Inv-cells μ-cells
 cells-again-4 c =
@@ -259,9 +193,6 @@ cells-again-4 c =
     let e = and-is is-open (sym (c .before .kept .ensures) ∙ c .if7 .taken) in
     let f = m .places .inv .1 ∙ place-turn q (a .t2) (m .places .j) (omega arith) e in
     (search needs, next k (kept-or-free (old-at m) true f))
-
-places-less-2 : tie.Need-places-less-2 Inv-places μ-places Inv-cells μ-cells
-places-less-2 c = search needs
 
 places-again-2 : tie.Need-places-again-2 Inv-places μ-places Inv-cells μ-cells
 places-again-2 c =
@@ -298,39 +229,39 @@ reusable-spec =
     μ-places
     Inv-cells
     μ-cells
-    count-requires
-    oldest-open-requires
-    mul-oldest
+    (λ c κs. search needs)
+    (λ c κs. search needs)
+    (λ c. search needs)
     array-copy-out-oldest
-    tops-of-requires
+    (λ c κs. search needs)
     cells-holds
-    cell-at-requires
-    add-i
-    empty-requires
+    (λ c κs. search needs)
+    (λ c. search needs)
+    (λ c κs. search needs)
     returns
-    committed-requires
-    cells-less
+    (λ c κs. search needs)
+    (λ c. search needs)
     cells-again
-    outdated-by-requires
-    cells-less-2
+    (λ c κs. search needs)
+    (λ c. search needs)
     cells-again-2
-    surpassed-requires
+    (λ c κs. search needs)
     returns-2
-    is-open-requires
-    held-by-requires
-    cells-less-3
+    (λ c κs. search needs)
+    (λ c κs. search needs)
+    (λ c. search needs)
     cells-again-3
     places-holds
-    mul-p
-    array-copy-out-p
-    add-j
-    is-open-requires-2
-    places-less
+    (λ c. search needs)
+    (λ c. search needs)
+    (λ c. search needs)
+    (λ c κs. search needs)
+    (λ c. search needs)
     places-again
-    kept-requires
-    cells-less-4
+    (λ c κs. search needs)
+    (λ c. search needs)
     cells-again-4
-    places-less-2
+    (λ c. search needs)
     places-again-2
     returns-3
     returns-4)

@@ -1,94 +1,55 @@
 -- `Board::commit` meets its contract.
 -- Assumes nothing.
-use Prim.Native.Nat.{ℕ, _+_}
+use Prim.Native.Nat.{_+_}
 use native.Mathlib.Omega.{arith}
 use borrow.Author.Needs.{needs}
-use lib.ListN.{set}
 use Rattle.records.specs.declared.Call.{Call}
 use Rattle.records.specs.declared.Answer.{Answer}
-use Rattle.steps.specs.declared.Board.{Board}
-use Rattle.steps.specs.declared.Place.{Place}
-use Rattle.steps.specs.Step.{answered}
-use Rattle.steps.proofs.Checks.{Passed, passed, refused}
+use Rattle.steps.specs.Record.{withPlace, withCounts}
+use Rattle.steps.specs.Store.{lent, answered}
+use Rattle.steps.proofs.Checks.{Passed, passed, refused, handed}
 use Rattle.steps.proofs.Board.commit.Statement.{statement}
 use Rattle.steps.proofs.Board.commit.Tie as tie
 
--- no check has refused
-go : (c : tie.Else1)
-    → (let a = c .before .before .before .before .args in Passed (a .t1) (a .cells .now) (Call.Commit (a .place)))
-go c = passed _ _ _ (c .before .before .check .ensures) (c .before .number .ensures) (c .if1 .left)
-
--- the record after it
-abbrev after : Board → ℕ → Place → Board
-after b place p = record { places = set (b .places) place p; starts = b .starts; commits = b .commits + 1 }
-
-check-requires : tie.Need-check-requires
-check-requires c κs = search needs
-
-number-requires : tie.Need-number-requires
-number-requires c κs = search needs
-
-with-requires : tie.Need-with-requires
-with-requires c κs = search needs
+-- the call was admitted
+go : (c : tie.After-known-told2)
+    → (let a = c .before .before .before .before .before .args in
+    Passed (lent (a .t1) (a .cells .now)) (Call.Commit (a .place)) (c .before .at .given .0 .0))
+go c = passed _ _ (c .before .before .before .admit .ensures) (c .before .at .given .1)
 
 returns : tie.Need-returns
 returns c =
-    let k = c .before .before .before in
-    let a = k .before .before .args in
-    refused (a .t1) (a .cells .now) (Call.Commit (a .place)) (k .check .ensures) (c .before .before .number .ensures)
-    (c .before .if1 .taken) (c .with .ensures)
-
-mul-p : tie.Need-mul-p
-mul-p c = search needs
-
-element-copy-out-p : tie.Need-element-copy-out-p
-element-copy-out-p c = go c .below
-
-add-commit : tie.Need-add-commit
-add-commit c = omega (arith, go (c .before) .commits)
-
-stamp-requires : tie.Need-stamp-requires
-stamp-requires c κs = search needs
-
-idle-requires : tie.Need-idle-requires
-idle-requires c κs = search needs
-
-mul-t10 : tie.Need-mul-t10
-mul-t10 c = search needs
-
-element-set-from-self : tie.Need-element-set-from-self
-element-set-from-self c = go (c .before .before .before .before .before .before) .below
-
-with-requires-2 : tie.Need-with-requires-2
-with-requires-2 c κs = search needs
-
-same-length : tie.Need-same-length
-same-length c = search needs
+    let m = c .before .before .before .before in
+    let a = m .before .before .args in
+    refused (lent (a .t1) (a .cells .now)) (Call.Commit (a .place))
+    (m .admit .ensures) (c .before .before .a .given .1) (c .with .ensures)
 
 returns-2 : tie.Need-returns-2
 returns-2 c =
     let k = c .before .before .before .before .before .before .before in
-    let a = k .before .before .before .before .args in
+    let a = k .before .before .before .before .before .args in
+    let n = a .t1 .commits + 1 in
     let words = c .before .before .before .before .stamp .ensures in
     let place = c .before .idle .ensures in
-    go k .is (c .with2 .ensures)
-    (λ j. answered (Answer.Ok (a .t1 .commits + 1)) (after (a .t1) (a .place) (place j)) (words j))
+    go k .is (handed (c .with2 .ensures)
+    (λ j. answered (Answer.Ok n) (lent (withCounts (withPlace (a .t1) (k .before .at .given .0 .0) (place j)) (a .t1 .starts) n) (words j))))
 
 pub commit-spec : {M : Type 1} → statement M
 commit-spec =
     tie.close
     (tie.spec
-    check-requires
-    number-requires
-    with-requires
+    (λ c κs. search needs)
+    (λ c. search needs)
+    (λ c κs. search needs)
+    (λ c. search needs)
+    (λ c. omega (arith, go c .below))
+    (λ c. go c .below)
+    (λ c. omega (arith, go (c .before) .commits))
+    (λ c κs. search needs)
+    (λ c κs. search needs)
+    (λ c. omega (arith, go (c .before .before .before .before .before .before) .below))
+    (λ c. go (c .before .before .before .before .before .before) .below)
+    (λ c κs. search needs)
     returns
-    mul-p
-    element-copy-out-p
-    add-commit
-    stamp-requires
-    idle-requires
-    mul-t10
-    element-set-from-self
-    with-requires-2
-    same-length
+    (λ c. search needs)
     returns-2)

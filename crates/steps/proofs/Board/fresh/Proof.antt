@@ -11,11 +11,8 @@ use Rattle.steps.proofs.Board.fresh.Tie as tie
 abbrev all : Place → Board
 all p = record { places = replicate allPlaces p; starts = 0; commits = 0 }
 
-idle-requires : tie.Need-idle-requires
-idle-requires c κs = search needs
-
 returns : tie.Need-returns
 returns c = ap all (c .idle .ensures)
 
 pub fresh-spec : {M : Type 1} → statement M
-fresh-spec = tie.close (tie.spec idle-requires returns)
+fresh-spec = tie.close (tie.spec (λ c κs. search needs) returns)

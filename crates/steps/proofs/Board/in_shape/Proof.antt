@@ -9,30 +9,6 @@ use borrow.Author.Needs.{needs}
 use Rattle.steps.proofs.Board.in_shape.Statement.{statement}
 use Rattle.steps.proofs.Board.in_shape.Tie as tie
 
-held-count-requires : tie.Need-held-count-requires
-held-count-requires c κs = search needs
-
-whole-requires : tie.Need-whole-requires
-whole-requires c κs = search needs
-
-cast-result : tie.Need-cast-result
-cast-result c = search needs
-
-cast-result-2 : tie.Need-cast-result-2
-cast-result-2 c = search needs
-
-add-result : tie.Need-add-result
-add-result c = search needs
-
-cast-result-3 : tie.Need-cast-result-3
-cast-result-3 c = search needs
-
-has-distinct-requires : tie.Need-has-distinct-requires
-has-distinct-requires c κs = search needs
-
-has-counted-requires : tie.Need-has-counted-requires
-has-counted-requires c κs = search needs
-
 returns : tie.Need-returns
 unfolding inShape
 returns c =
@@ -48,12 +24,12 @@ pub in-shape-spec : {M : Type 1} → statement M
 in-shape-spec =
     tie.close
     (tie.spec
-    held-count-requires
-    whole-requires
-    cast-result
-    cast-result-2
-    add-result
-    cast-result-3
-    has-distinct-requires
-    has-counted-requires
+    (λ c κs. search needs)
+    (λ c κs. search needs)
+    (λ c. search needs)
+    (λ c. search needs)
+    (λ c. search needs)
+    (λ c. search needs)
+    (λ c κs. search needs)
+    (λ c κs. search needs)
     returns)

@@ -1,71 +1,49 @@
 -- `Board::prepare` meets its contract.
 -- Assumes nothing.
+use native.Mathlib.Omega.{arith}
 use borrow.Author.Needs.{needs}
 use Rattle.records.specs.declared.Call.{Call}
 use Rattle.records.specs.declared.Answer.{Answer}
-use Rattle.steps.specs.Step.{answered, withPlace}
-use Rattle.steps.proofs.Checks.{Passed, passed, refused}
+use Rattle.steps.specs.Record.{withPlace}
+use Rattle.steps.specs.Store.{lent, answered}
+use Rattle.steps.proofs.Checks.{Passed, passed, refused, handed}
 use Rattle.steps.proofs.Board.prepare.Statement.{statement}
 use Rattle.steps.proofs.Board.prepare.Tie as tie
 
--- no check has refused
-go : (c : tie.Else1)
-    → (let a = c .before .before .before .before .args in Passed (a .t1) (a .cells .now) (Call.Prepare (a .place)))
-go c = passed _ _ _ (c .before .before .check .ensures) (c .before .number .ensures) (c .if1 .left)
-
-check-requires : tie.Need-check-requires
-check-requires c κs = search needs
-
-number-requires : tie.Need-number-requires
-number-requires c κs = search needs
-
-with-requires : tie.Need-with-requires
-with-requires c κs = search needs
+-- the call was admitted
+go : (c : tie.After-known-told2)
+    → (let a = c .before .before .before .before .before .args in
+    Passed (lent (a .t1) (a .cells .now)) (Call.Prepare (a .place)) (c .before .at .given .0 .0))
+go c = passed _ _ (c .before .before .before .admit .ensures) (c .before .at .given .1)
 
 returns : tie.Need-returns
 returns c =
-    let k = c .before .before .before in
-    let a = k .before .before .args in
-    refused (a .t1) (a .cells .now) (Call.Prepare (a .place)) (k .check .ensures) (c .before .before .number .ensures)
-    (c .before .if1 .taken) (c .with .ensures)
-
-mul-p : tie.Need-mul-p
-mul-p c = search needs
-
-element-copy-out-p : tie.Need-element-copy-out-p
-element-copy-out-p c = go c .below
-
-in-state-requires : tie.Need-in-state-requires
-in-state-requires c κs = search needs
-
-mul-t9 : tie.Need-mul-t9
-mul-t9 c = search needs
-
-element-set-from-self : tie.Need-element-set-from-self
-element-set-from-self c = go (c .before .before) .below
-
-with-requires-2 : tie.Need-with-requires-2
-with-requires-2 c κs = search needs
+    let m = c .before .before .before .before in
+    let a = m .before .before .args in
+    refused (lent (a .t1) (a .cells .now)) (Call.Prepare (a .place))
+    (m .admit .ensures) (c .before .before .a .given .1) (c .with .ensures)
 
 returns-2 : tie.Need-returns-2
 returns-2 c =
     let k = c .before .before .before in
-    let a = k .before .before .before .before .args in
+    let a = k .before .before .before .before .before .args in
     let place = c .before .in-state .ensures in
-    go k .is (c .with2 .ensures) (λ j. answered (Answer.Ok 0) (withPlace (a .t1) (a .place) (place j)) (a .cells .now))
+    go k .is (handed (c .with2 .ensures)
+    (λ j. answered (Answer.Ok 0) (lent (withPlace (a .t1) (k .before .at .given .0 .0) (place j)) (a .cells .now))))
 
 pub prepare-spec : {M : Type 1} → statement M
 prepare-spec =
     tie.close
     (tie.spec
-    check-requires
-    number-requires
-    with-requires
+    (λ c κs. search needs)
+    (λ c. search needs)
+    (λ c κs. search needs)
+    (λ c. search needs)
+    (λ c. omega (arith, go c .below))
+    (λ c. go c .below)
+    (λ c κs. search needs)
+    (λ c. omega (arith, go (c .before .before) .below))
+    (λ c. go (c .before .before) .below)
+    (λ c κs. search needs)
     returns
-    mul-p
-    element-copy-out-p
-    in-state-requires
-    mul-t9
-    element-set-from-self
-    with-requires-2
     returns-2)

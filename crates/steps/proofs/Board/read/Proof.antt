@@ -1,139 +1,43 @@
 -- `Board::read` meets its contract.
 -- Assumes nothing.
-use mathlib.Core.Path.{_≡_, sym, ap, _∙_}
-use mathlib.Core.Bool.{Bool, _&&_}
 use borrow.Author.Needs.{needs}
+use mathlib.Core.Path.{ap}
 use Rattle.records.specs.declared.Call.{Call}
-use Rattle.cells.specs.declared.Found.{Found}
-use Rattle.cells.specs.declared.Looked.{Looked}
-use Rattle.cells.specs.Cells.{cellsOf}
-use Rattle.cells.specs.Rules.{ownAt}
-use Rattle.steps.specs.Spent.{heldBack}
-use Rattle.steps.specs.Step.{numberAt}
-use Rattle.steps.proofs.Checks.{Passed, passed, refused}
-use Rattle.steps.proofs.Quick.{held-if}
-use Rattle.steps.proofs.Ends.{read-own, read-held, read-seen}
+use Rattle.records.specs.declared.Answer.{Answer}
+use Rattle.steps.specs.Store.{lent, answered}
+use Rattle.steps.proofs.Checks.{Passed, passed, refused, handed}
 use Rattle.steps.proofs.Board.read.Statement.{statement}
 use Rattle.steps.proofs.Board.read.Tie as tie
 
--- no check has refused
-go : (c : tie.Else1)
-    → (let a = c .before .before .before .before .args in Passed (a .t1) (a .cells .now) (Call.Read (a .place) (a .key)))
-go c = passed _ _ _ (c .before .before .check .ensures) (c .before .number .ensures) (c .if1 .left)
-
--- an own cell was found, or none
-found : (c : tie.After-known-told)
-    → (let a = c .before .before .before .before .before .before .before .before .before .args in
-    ownAt (a .key) (numberAt (a .t1) (a .place)) (cellsOf (a .cells .now)) ≡ Found.At (c .before .mine .given .0 .0))
-found c = sym (ap (λ (l : Looked). l .own) (c .before .before .before .look .ensures)) ∙ c .before .mine .given .1
-
-none : (c : tie.After-enum-told)
-    → (let a = c .before .before .before .before .before .before .before .before .args in
-    ownAt (a .key) (numberAt (a .t1) (a .place)) (cellsOf (a .cells .now)) ≡ Found.Nothing)
-none c = sym (ap (λ (l : Looked). l .own) (c .before .before .look .ensures)) ∙ c .enum-told .given .1
-
--- whether a prepared writer holds the key back, where that is asked only if a foreign cell was seen
-held-of : (n : tie.After-enum-told) {r t : Bool}
-    → (let a = n .before .before .before .before .before .before .before .before .args in
-    let cs = cellsOf (a .cells .now) in
-    let held = heldBack (a .key) (numberAt (a .t1) (a .place)) (a .t1 .places) cs in
-    r ≡ (n .before .before .look .result .foreign && held) → r ≡ t → held ≡ t)
-held-of n e f =
-    let a = n .before .before .before .before .before .before .before .before .args in
-    let cs = cellsOf (a .cells .now) in
-    let held = heldBack (a .key) (numberAt (a .t1) (a .place)) (a .t1 .places) cs in
-    let seen = ap (λ (l : Looked). l .foreign && held) (n .before .before .look .ensures) in
-    sym (held-if (a .key) (numberAt (a .t1) (a .place)) (a .t1 .places) cs) ∙ sym seen ∙ sym e ∙ f
-
-check-requires : tie.Need-check-requires
-check-requires c κs = search needs
-
-number-requires : tie.Need-number-requires
-number-requires c κs = search needs
-
-with-requires : tie.Need-with-requires
-with-requires c κs = search needs
+-- the call was admitted
+go : (c : tie.After-known-told2)
+    → (let a = c .before .before .before .before .before .args in
+    Passed (lent (a .self) (a .cells .now)) (Call.Read (a .place) (a .key)) (c .before .at .given .0 .0))
+go c = passed _ _ (c .before .before .before .admit .ensures) (c .before .at .given .1)
 
 returns : tie.Need-returns
 returns c =
-    let k = c .before .before .before in
-    let a = k .before .before .args in
-    refused (a .t1) (a .cells .now) (Call.Read (a .place) (a .key)) (k .check .ensures) (c .before .before .number .ensures)
-    (c .before .if1 .taken) (c .with .ensures)
-
-mul-p : tie.Need-mul-p
-mul-p c = search needs
-
-element-copy-out-p : tie.Need-element-copy-out-p
-element-copy-out-p c = go c .below
-
-look-requires : tie.Need-look-requires
-look-requires c κs = search needs
-
-enum-known-mine : tie.Need-enum-known-mine
-enum-known-mine c = search needs
-
-cell-at-requires : tie.Need-cell-at-requires
-cell-at-requires c κs = search needs
-
-with-requires-2 : tie.Need-with-requires-2
-with-requires-2 c κs = search needs
+    let m = c .before .before .before .before in
+    let a = m .before .before .args in
+    refused (lent (a .self) (a .cells .now)) (Call.Read (a .place) (a .key))
+    (m .admit .ensures) (c .before .before .a .given .1) (c .with .ensures)
 
 returns-2 : tie.Need-returns-2
 returns-2 c =
-    let f = c .before .before in
-    let k = f .before .before .before .before .before in
-    let a = k .before .before .before .before .args in
-    go k .is (c .with2 .ensures)
-    (read-own (a .t1) (a .cells .now) (a .place) (a .key) (found f) (c .before .cell-at .ensures))
-
-enum-told : tie.Need-enum-told
-enum-told c = search needs
-
-held-back-if-requires : tie.Need-held-back-if-requires
-held-back-if-requires c κs = search needs
-
-with-requires-3 : tie.Need-with-requires-3
-with-requires-3 c κs = search needs
-
-returns-3 : tie.Need-returns-3
-returns-3 c =
-    let n = c .before .before .before .before in
-    let k = n .before .before .before .before in
-    let a = k .before .before .before .before .args in
-    let held = held-of n (c .before .before .held-back-if .ensures) (c .before .if2 .taken) in
-    go k .is (c .with3 .ensures) (read-held (a .t1) (a .cells .now) (a .place) (a .key) (none n) held)
-
-with-requires-4 : tie.Need-with-requires-4
-with-requires-4 c κs = search needs
-
-returns-4 : tie.Need-returns-4
-returns-4 c =
-    let n = c .before .before .before .before .before in
-    let k = n .before .before .before .before in
-    let a = k .before .before .before .before .args in
-    let held = held-of n (c .before .before .before .held-back-if .ensures) (c .before .before .if2 .left) in
-    go k .is (c .with4 .ensures)
-    (read-seen (a .t1) (a .cells .now) (a .place) (a .key) (none n) held (ap (λ (l : Looked). l .newest) (n .before .before .look .ensures)))
+    let k = c .before .before in
+    let a = k .before .before .before .before .before .args in
+    let st = lent (a .self) (a .cells .now) in
+    go k .is (handed (c .with2 .ensures) (ap (λ (x : Answer). answered x st) (c .before .shown .ensures)))
 
 pub read-spec : {M : Type 1} → statement M
 read-spec =
     tie.close
     (tie.spec
-    check-requires
-    number-requires
-    with-requires
+    (λ c κs. search needs)
+    (λ c. search needs)
+    (λ c κs. search needs)
+    (λ c. search needs)
+    (λ c κs. go c .below)
+    (λ c κs. search needs)
     returns
-    mul-p
-    element-copy-out-p
-    look-requires
-    enum-known-mine
-    cell-at-requires
-    with-requires-2
-    returns-2
-    enum-told
-    held-back-if-requires
-    with-requires-3
-    returns-3
-    with-requires-4
-    returns-4)
+    returns-2)

@@ -1,0 +1,2 @@
+-- Laws of the program's loop.
+pub mod Loop
