@@ -1,6 +1,6 @@
 -- `run` meets its contract and ends. The loop's invariant: turns that lead on from here lead on from the fresh desk (`Loop`). The measure
 -- is the count of turns. Assumes nothing.
-use mathlib.Core.Path.{_≡_, subst}
+use mathlib.Core.Path.{subst}
 use native.Mathlib.Omega.{arith}
 use denote.Ref.{now}
 use borrow.Author.Needs.{needs}

@@ -1,5 +1,4 @@
 -- `finish` meets its contract: nothing left is nothing written, and a cut record is RECORD. Assumes nothing.
-use mathlib.Core.Path.{_≡_, refl, sym, ap, _∙_}
 use borrow.Author.Needs.{needs}
 use denote.Ref.{now}
 use Rattle.lanes.proofs.Turns.{end-none, end-cut}

@@ -1,5 +1,5 @@
 -- `turn_on` meets its contract: what it calls comes to `turn-is` of `Turns`. Assumes nothing.
-use mathlib.Core.Path.{_≡_, sym, subst⁻¹}
+use mathlib.Core.Path.{sym, subst⁻¹}
 use mathlib.Core.List.{List}
 use Prim.Native.Nat.{ℕ, _≤_}
 use native.Mathlib.Omega.{arith}
