@@ -8,7 +8,7 @@ use Rattle.cells.specs.declared.Cell.{Cell}
 use Rattle.cells.specs.declared.Found.{Found}
 use Rattle.cells.specs.declared.Found.the-variants.{At, Nothing}
 use Rattle.cells.specs.declared.Looked.{Looked}
-use Rattle.cells.specs.Cells.{noCell, empty, own, foreign, committed, ofKey, seenBy}
+use Rattle.cells.specs.Cells.{noCell, own, foreign, committed, ofKey, seenBy}
 
 -- the first where the test passes, otherwise the second
 abbrev pub pickFound : Bool → Found → Found → Found

@@ -7,7 +7,7 @@
 --     answers-written, answers-read, no-answers-read, answers-read-at, answers-written-at   the records of answers
 --     desk-writes     what the desk writes; desk-starts: on which board
 -- Assumes nothing.
-use mathlib.Core.Path.{_≡_, refl}
+use mathlib.Core.Path.{refl}
 use Rattle.records.specs.Format.{callRecord, answerRecord, sameBytes, callFrom, replyFrom, callIn, answerIn, callAt, answerAt}
 use Rattle.records.specs.Format.{putAt, writtenCall, writtenAnswer}
 use Rattle.cells.specs.Cells.{cellsOf, pastCells, wordsOf, withCells}

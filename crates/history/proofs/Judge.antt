@@ -31,14 +31,14 @@ use Rattle.steps.specs.Spent.{holdsBack, heldBack, reusable}
 use Rattle.steps.specs.Store.{Store, Said, Outcome, cellsIn, saidOf}
 use Rattle.steps.specs.Step.{done, facts, readAs, updatedAs, numberAt, viewAt, step}
 use Rattle.steps.specs.Run.{Pair, pairOf}
-use Rattle.steps.proofs.Tests.{by-test, two, and-both as both, and-left, and-right}
+use Rattle.steps.proofs.Tests.{two, and-both as both, and-left, and-right}
 use Rattle.steps.proofs.Cases.{Cleared, cleared, same-check, on-read, on-update, open-of}
 use Rattle.history.specs.History.{Ledger, doneAt, ledger, leave, Contested, Reaches}
 use Rattle.history.specs.Verdict.{anyBelow, isSome, wroteKey, contested, hidden, checksOf, due, verdict, NeedsCell, Packed, Answers}
 use Rattle.history.specs.Verdict.{Right, AllRight, FullRight, Decided}
 use Rattle.history.proofs.Basics.{cases, eq?, clash, or-cases, or-left, or-right, none-some, place-found, some-place}
 use Rattle.history.proofs.Facts.{cellAt, Draft, in-cells, own-draft, foreign-facts, foreign-of}
-use Rattle.history.proofs.Link.{wrote, busy, Linked, same-place, own-cell}
+use Rattle.history.proofs.Link.{wrote, Linked, same-place, own-cell}
 use Rattle.history.proofs.Seen.{open-busy, not-written, live-read, conflict-contested, contested-conflict}
 use Rattle.history.proofs.Demand.{reaches, at, empty-count}
 use Rattle.history.proofs.Full.{full-packed, packed-full}

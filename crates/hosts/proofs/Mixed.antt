@@ -6,7 +6,6 @@ use mathlib.Core.Path.{_≡_, refl, sym, ap, _∙_, subst}
 use mathlib.Core.Bool.{Bool, true, false}
 use mathlib.Core.List.{List, [], _∷_, _++_, map}
 use Prim.Native.Nat.{ℕ}
-use native.Mathlib.Omega.{arith}
 use lib.ListN.{length}
 use Rattle.records.specs.declared.Call.{Call}
 use Rattle.records.specs.declared.CallRead.{CallRead}

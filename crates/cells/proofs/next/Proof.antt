@@ -2,10 +2,10 @@ use borrow.Author.Needs.{needs}
 use borrow.Author.Count.{below-more}
 use borrow.Author.Tests.{not-true, eq-eqb, ne-eqb}
 use native.Mathlib.Omega.{arith}
-use mathlib.Core.Path.{_≡_, sym, ap, _∙_}
+use mathlib.Core.Path.{_≡_}
 use mathlib.Core.Bool.{false, _||_}
-use Prim.Native.Nat.{ℕ, _+_, _-_, _≤_, _<_}
-use lib.ListN.{length, getD}
+use Prim.Native.Nat.{ℕ, _-_, _≤_, _<_}
+use lib.ListN.{getD}
 use Rattle.cells.specs.Cells.{cellsOf, noCell}
 use Rattle.cells.specs.Search.{partIs}
 use Rattle.cells.proofs.Words.{length-cells}

@@ -5,7 +5,6 @@ use Rattle.steps.specs.Check.{boardFacts}
 use Rattle.steps.proofs.Checks.{admit-refused, admit-at}
 use mathlib.Core.Path.{ap, _∙_}
 use Rattle.steps.specs.declared.Admission.{Admission}
-use Prim.Native.Nat.{ℕ}
 use Rattle.steps.proofs.Board.admit.Statement.{statement}
 use Rattle.steps.proofs.Board.admit.Tie as tie
 

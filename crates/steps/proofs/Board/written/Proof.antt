@@ -1,7 +1,6 @@
 -- `Board::written` meets its contract.
 -- Assumes nothing.
 use mathlib.Core.Path.{_≡_, sym, _∙_}
-use native.Mathlib.Omega.{arith}
 use borrow.Author.Needs.{needs}
 use Rattle.cells.specs.declared.Found.{Found}
 use Rattle.cells.specs.Cells.{cellsOf}
