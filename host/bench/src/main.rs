@@ -5,6 +5,8 @@
 //! counts, so that a busy machine disturbs little and all alike. For the desk program it is its process's time.
 //! Under an emulator, which host/x86.sh names in LANE_EMULATOR, all is run and compared, but no time says anything.
 
+use lane::layout::CELL_WORDS;
+use lane::{Call, ANSWER_BYTES, CALL_BYTES, MAX_CELLS};
 use peers::{Peer, Proved, Twin};
 use program::emulator;
 use std::hint::black_box;
@@ -140,39 +142,40 @@ fn wired(_: bool) -> Option<Box<dyn Peer>> {
 }
 
 fn proved() -> Proved {
-    Proved(lane::Board::new(1_024).expect("1,024 cells"))
+    Proved(lane::Board::new(MAX_CELLS).expect("as many cells as a board can have"))
 }
 
 fn twin() -> Twin {
-    Twin(twin::Board::fresh(1_024))
+    Twin(twin::Board::fresh(MAX_CELLS))
 }
 
 /// W1 as call records: every key written, then so many transactions.
 fn stream(transactions: u64) -> Vec<u8> {
     struct Records(Vec<u8>);
     impl Records {
-        fn put(&mut self, kind: u8, place: u32, key: u32, value: u32) {
-            self.0.extend([0x43, 0x4C, kind, place as u8, key as u8, 0]);
+        fn put(&mut self, call: Call) {
+            let [kind, place, key, value] = call.numbers();
+            self.0.extend([0x43, 0x4C, kind as u8, place as u8, key as u8, 0]);
             self.0.extend(value.to_le_bytes());
         }
     }
     impl Peer for Records {
         fn start(&mut self, place: u32) {
-            self.put(1, place, 0, 0);
+            self.put(Call::Start { place });
         }
         fn read(&mut self, place: u32, key: u32) -> u32 {
-            self.put(2, place, key, 0);
+            self.put(Call::Read { place, key });
             0
         }
         fn update(&mut self, place: u32, key: u32, value: u32) -> bool {
-            self.put(3, place, key, value);
+            self.put(Call::Update { place, key, value });
             true
         }
         fn commit(&mut self, place: u32) {
-            self.put(5, place, 0, 0);
+            self.put(Call::Commit { place });
         }
         fn rollback(&mut self, place: u32) {
-            self.put(6, place, 0, 0);
+            self.put(Call::Rollback { place });
         }
     }
     let mut records = Records(Vec::new());
@@ -202,7 +205,7 @@ fn rate(input: &[u8], expected: &[u8], clock: fn() -> Duration, run: impl Fn(&[u
     for _ in 0..3 {
         let begun = clock();
         let output = run(input);
-        best = best.max((input.len() / 10) as f64 / (clock() - begun).as_secs_f64());
+        best = best.max((input.len() / CALL_BYTES) as f64 / (clock() - begun).as_secs_f64());
         assert!(output == expected, "on W1's stream two of the desks write different bytes");
     }
     best
@@ -275,21 +278,14 @@ fn goal(what: &str, met: Option<bool>, measured: String) {
     println!("  {what}: {verdict}{measured}");
 }
 
-fn main() {
-    if let Some(emulator) = emulator() {
-        println!("Under an emulator, {}: no time below says anything about a processor.", emulator.display());
-    }
-    let mut w1 = written(|| Box::new(One(Rng::new())));
-    race("W1", &mut w1);
-    let mut w2 = written(|| Box::new(Sixteen::new()));
-    race("W2", &mut w2);
-
+/// W3 on the proved board and the twin, and the two plain passes over the same words, measured side by side.
+fn reads_and_passes() -> ([Runner; 2], [Runner; 2]) {
     let (mut a, mut b) = (proved(), twin());
     work::open_sixteen_views(&mut a);
     work::open_sixteen_views(&mut b);
     let words = a.0.cell_words().to_vec();
     assert!(words == b.0.cells, "lane and twin fill the cells differently");
-    assert!(words.chunks(4).all(|cell| cell[0] != 0), "every cell is filled");
+    assert!(words.chunks(CELL_WORDS).all(|cell| cell[0] != 0), "every cell is filled");
     let again = words.clone();
     let mut w3 = [runner("lane", a, Reads(Rng::new())), runner("twin", b, Reads(Rng::new()))];
     agree("W3", &mut w3);
@@ -299,51 +295,38 @@ fn main() {
     let mut plain =
         [Runner::new("pass", passes(words, pass)), Runner::new("search", passes(again, pass_that_could_stop))];
     measure("W3 and the plain pass", &mut w3, &mut plain);
+    (w3, plain)
+}
 
+/// Calls a second on W1's stream.
+struct StreamRates {
+    desk: f64,
+    serve: f64,
+    twin: f64,
+}
+
+/// W1's stream through the desk program, through `lane_serve` and through the twin. `w1` tells how fast the boards are.
+fn stream_rates(w1: &[Runner]) -> StreamRates {
     eprintln!("measuring the desk program ..");
     let through_desk = |input: &[u8]| desk(input).unwrap_or_else(|e| panic!("{e}"));
     let through_serve = |input: &[u8]| {
-        let mut answers = vec![0; input.len() / 10 * 8];
-        lane::Board::new(1_024).expect("1,024 cells").serve(input, &mut answers);
+        let mut answers = vec![0; input.len() / CALL_BYTES * ANSWER_BYTES];
+        proved().0.serve(input, &mut answers);
         answers
     };
     // a stream that keeps the twin busy for about a second, and one that keeps the proved board busy for as long
     let short = stream((w1[1].best as u64).clamp(1_000, 400_000));
     let long = stream((w1[0].best as u64).clamp(1_000, 400_000));
-    let twin_rate = rate(&short, &through_desk(&short), own_time, twin::desk);
+    let twin = rate(&short, &through_desk(&short), own_time, twin::desk);
     let expected = through_serve(&long);
-    let desk_rate = rate(&long, &expected, desk_time, through_desk);
-    let serve_rate = rate(&long, &expected, own_time, through_serve);
+    let desk = rate(&long, &expected, desk_time, through_desk);
+    let serve = rate(&long, &expected, own_time, through_serve);
+    StreamRates { desk, serve, twin }
+}
 
-    let rows = [
-        row("W1: one place; start, read, update, commit", "transactions", &w1),
-        row("W2: sixteen places in turn on shared keys", "transactions", &w2),
-        row("W3: reads alone, sixteen open views, 1,024 cells", "reads", &w3),
-        Row {
-            what: "   plain pass over the same 4,096 words: a sum",
-            unit: "passes",
-            rates: [Some(plain[0].best), None, None, None],
-        },
-        Row {
-            what: "   plain pass: a search for a word not there",
-            unit: "passes",
-            rates: [Some(plain[1].best), None, None, None],
-        },
-        Row {
-            what: "W1's stream through the desk program",
-            unit: "calls",
-            rates: [Some(desk_rate), Some(twin_rate), None, None],
-        },
-        Row {
-            what: "W1's stream through lane_serve at once",
-            unit: "calls",
-            rates: [Some(serve_rate), Some(twin_rate), None, None],
-        },
-    ];
-    println!("\nBy processor time, best of {PASSES}:\n");
-    print(&rows);
-    println!("\nWiredTiger names its isolation once for a session; \"each\": again at each start. Goals are held to the faster.\n\nGoals");
-    for row in &rows[..2] {
+/// The goals of W1 and W2, whose rows these are.
+fn goals_against_wired(rows: &[Row]) {
+    for row in rows {
         let ratio = |i: usize| row.rates[i].and_then(|wired| row.rates[0].map(|lane| lane / wired));
         let measured = match (ratio(2), ratio(3)) {
             (Some(once), Some(each)) => {
@@ -353,9 +336,41 @@ fn main() {
         };
         goal(&format!("{} at least as fast as WiredTiger", &row.what[..2]), ratio(2).map(|r| r >= 1.0), measured);
     }
+}
+
+/// The goal of W3.
+fn goal_against_the_plain_pass(w3: &[Runner; 2], plain: &[Runner; 2]) {
     let [read, pass, search] = [w3[0].best, plain[0].best, plain[1].best];
     let measured = format!(", {:.2} sums long ({:.2} searches)", pass / read, search / read);
     goal("W3 a read at most twice the plain pass", Some(pass / read <= 2.0), measured);
+}
+
+fn main() {
+    if let Some(emulator) = emulator() {
+        println!("Under an emulator, {}: no time below says anything about a processor.", emulator.display());
+    }
+    let mut w1 = written(|| Box::new(One(Rng::new())));
+    race("W1", &mut w1);
+    let mut w2 = written(|| Box::new(Sixteen::new()));
+    race("W2", &mut w2);
+    let (w3, plain) = reads_and_passes();
+    let StreamRates { desk, serve, twin } = stream_rates(&w1);
+
+    let alone = |what, unit, lane, twin| Row { what, unit, rates: [Some(lane), twin, None, None] };
+    let rows = [
+        row("W1: one place; start, read, update, commit", "transactions", &w1),
+        row("W2: sixteen places in turn on shared keys", "transactions", &w2),
+        row("W3: reads alone, sixteen open views, 1,024 cells", "reads", &w3),
+        alone("   plain pass over the same 4,096 words: a sum", "passes", plain[0].best, None),
+        alone("   plain pass: a search for a word not there", "passes", plain[1].best, None),
+        alone("W1's stream through the desk program", "calls", desk, Some(twin)),
+        alone("W1's stream through lane_serve at once", "calls", serve, Some(twin)),
+    ];
+    println!("\nBy processor time, best of {PASSES}:\n");
+    print(&rows);
+    println!("\nWiredTiger names its isolation once for a session; \"each\": again at each start. Goals are held to the faster.\n\nGoals");
+    goals_against_wired(&rows[..2]);
+    goal_against_the_plain_pass(&w3, &plain);
     if rows[0].rates[2].is_none() {
         println!(
             "\nWiredTiger is not here. To measure against it: apt-get install libwiredtiger-dev:amd64, then ./lane bench"

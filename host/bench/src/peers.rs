@@ -101,13 +101,13 @@ pub mod wired {
             let home = std::env::temp_dir().join(format!("lane-bench-{process}-{n}"));
             std::fs::create_dir_all(&home).ok()?;
             let path = CString::new(home.to_str()?).ok()?;
-            // SAFETY: a string that ends in 0, and 16 places, which wired.c has room for.
-            let handle = unsafe { wired_open(path.as_ptr(), 16, c_int::from(at_each_start)) };
+            // SAFETY: a string that ends in 0; wired.c gives NULL for more places than it has room for.
+            let handle = unsafe { wired_open(path.as_ptr(), lane::PLACES as c_int, c_int::from(at_each_start)) };
             (!handle.is_null()).then(|| Wired { handle, home })
         }
 
         fn at(place: u32) -> c_int {
-            assert!(place < 16);
+            assert!(place < lane::PLACES);
             place as c_int
         }
     }

@@ -2,8 +2,8 @@
 
 use crate::peers::Peer;
 
-pub const KEYS: u32 = 256;
-pub const PLACES: usize = 16;
+pub use lane::KEYS;
+pub const PLACES: usize = lane::PLACES as usize;
 
 /// A tiny generator of numbers (xorshift), so that every peer gets the same keys.
 pub struct Rng(u64);

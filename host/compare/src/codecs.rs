@@ -1,7 +1,9 @@
 //! Records in all damaged forms. Call records are read by `lane_serve`, whose answer records are read by the twin.
 
 use crate::store::Served;
-use crate::{shrink, Difference, Progress, Store};
+use crate::{fresh, shrink, Difference, Progress, Store};
+use lane::layout::{self, CELL_WORDS, COMMITS, MAX_CELL_WORDS, RECORD_WORDS, STARTS};
+use lane::{Place, State, ANSWER_BYTES, CALL_BYTES};
 use twin::board::Call;
 use twin::records::{call_record, read_answer};
 
@@ -34,14 +36,16 @@ impl Case {
         }
         let size = |case: &Case| (case.calls.len() + case.cells.len() + case.room) as u64;
         shrink::until_still(&mut self, size, |case| {
-            for unit in [10, 1] {
+            for unit in [CALL_BYTES, 1] {
                 let now = case.clone();
                 shrink::drop_parts(&mut case.calls, unit, &mut |calls| {
                     differ(&Case { calls: calls.to_vec(), ..now.clone() })
                 });
             }
             let now = case.clone();
-            shrink::drop_parts(&mut case.cells, 4, &mut |cells| differ(&Case { cells: cells.to_vec(), ..now.clone() }));
+            shrink::drop_parts(&mut case.cells, CELL_WORDS, &mut |cells| {
+                differ(&Case { cells: cells.to_vec(), ..now.clone() })
+            });
             if let Some(room) = (0..case.room).find(|&room| differ(&Case { room, ..case.clone() })) {
                 case.room = room;
             }
@@ -83,8 +87,8 @@ impl Case {
         let ((_, written, _), answers, ..) = &left;
         let written = *written as usize;
         let records = written <= self.room
-            && written.is_multiple_of(8)
-            && (0..written / 8).all(|i| read_answer(answers, 8 * i).is_some())
+            && written.is_multiple_of(ANSWER_BYTES)
+            && (0..written).step_by(ANSWER_BYTES).all(|at| read_answer(answers, at).is_some())
             && answers[written..].iter().all(|&byte| byte == UNTOUCHED);
         if !records || left != self.play(b) {
             return Err(self.clone().difference(a, b));
@@ -93,8 +97,11 @@ impl Case {
     }
 }
 
+/// One call record.
+pub type Bytes = [u8; CALL_BYTES];
+
 /// Valid call records: every kind, with places, keys and values at their edges.
-pub fn valid() -> Vec<[u8; 10]> {
+pub fn valid() -> Vec<Bytes> {
     let mut calls = Vec::new();
     for place in [0, 15, 16, 255] {
         calls.extend([
@@ -115,89 +122,137 @@ pub fn valid() -> Vec<[u8; 10]> {
 
 /// A board on which place 0 is open with a write, and place 15 is open without.
 fn board(cells: usize) -> (Vec<u32>, Vec<u32>) {
-    let mut record = vec![0; 50];
-    record[..3].copy_from_slice(&[1, 2, 1]);
-    record[45..48].copy_from_slice(&[1, 3, 1]);
-    record[48] = 3;
-    record[49] = 1;
-    let mut words = vec![0; 4 * cells];
-    words[..8].copy_from_slice(&[8, 5, 1, 1, 8, 6, 2, 0]);
+    let (mut record, mut words) = fresh(cells);
+    let mut open = |place, number| {
+        let open = Place { state: State::Open, number, view: 1 };
+        record[layout::place(place)].copy_from_slice(&open.words());
+    };
+    open(0, 2);
+    open(15, 3);
+    record[STARTS] = 3;
+    record[COMMITS] = 1;
+    words[layout::cell(0)].copy_from_slice(&[8, 5, 1, 1]);
+    words[layout::cell(1)].copy_from_slice(&[8, 6, 2, 0]);
     (record, words)
 }
 
 /// All damaged forms of the valid records: each byte by each other value, each pair of mark bytes, each kind with each
 /// nonzero byte behind it, every length, every room, bytes in front. Gives how many cases they were.
 pub fn compare(a: &dyn Store, b: &dyn Store) -> Result<u64, Difference> {
-    let (record, cells) = board(3);
-    let with = |calls: &[u8], room| Case { record: record.clone(), cells: cells.clone(), calls: calls.to_vec(), room };
-    let mut progress = Progress::new("records", 0);
-    let mut cases = 0;
-    let mut one = |case: Case| {
-        cases += 1;
-        progress.at(cases);
-        case.compare(a, b)
-    };
+    let mut run = Run { a, b, board: board(3), cases: 0, progress: Progress::new("records", 0) };
     let valid = valid();
     let start = valid[0];
     for call in &valid {
-        // each byte by every value, alone and between two good records
-        for at in 0..10 {
+        run.each_byte_by_every_value(start, *call)?;
+        run.cut_with_every_room(start, *call)?;
+        run.begun_at_every_wrong_offset(*call)?;
+    }
+    run.every_two_marks(start)?;
+    run.every_kind_with_bytes_not_zero(start)?;
+    run.no_records_and_boards_out_of_shape(start)?;
+    run.progress.end(run.cases);
+    Ok(run.cases)
+}
+
+/// A comparison under way.
+struct Run<'a> {
+    a: &'a dyn Store,
+    b: &'a dyn Store,
+    /// The record and the cells that calls are served on.
+    board: (Vec<u32>, Vec<u32>),
+    cases: u64,
+    progress: Progress,
+}
+
+impl Run<'_> {
+    fn one(&mut self, case: Case) -> Result<(), Difference> {
+        self.cases += 1;
+        self.progress.at(self.cases);
+        case.compare(self.a, self.b)
+    }
+
+    /// These bytes on the board, with so many bytes of room.
+    fn with(&mut self, calls: &[u8], room: usize) -> Result<(), Difference> {
+        let (record, cells) = self.board.clone();
+        self.one(Case { record, cells, calls: calls.to_vec(), room })
+    }
+
+    /// Each alone and between two good records.
+    fn each_byte_by_every_value(&mut self, start: Bytes, call: Bytes) -> Result<(), Difference> {
+        for at in 0..CALL_BYTES {
             for byte in 0..=255 {
-                let mut bytes = *call;
+                let mut bytes = call;
                 bytes[at] = byte;
-                one(with(&bytes, 8))?;
-                one(with(&[start, bytes, start].concat(), 24))?;
+                self.with(&bytes, ANSWER_BYTES)?;
+                self.with(&[start, bytes, start].concat(), 3 * ANSWER_BYTES)?;
             }
         }
-        // cut after every byte, with every room
-        for length in 0..=10 {
-            for room in 0..=17 {
-                one(with(&call[..length], room))?;
-                one(with(&[&start[..], &call[..length]].concat(), room))?;
+        Ok(())
+    }
+
+    /// Cut after every byte, alone and behind a good record.
+    fn cut_with_every_room(&mut self, start: Bytes, call: Bytes) -> Result<(), Difference> {
+        for length in 0..=CALL_BYTES {
+            for room in 0..=2 * ANSWER_BYTES + 1 {
+                self.with(&call[..length], room)?;
+                self.with(&[&start[..], &call[..length]].concat(), room)?;
             }
         }
-        // begun at every wrong offset
-        for at in 1..10 {
-            one(with(&[&call[at..], call].concat(), 32))?;
+        Ok(())
+    }
+
+    fn begun_at_every_wrong_offset(&mut self, call: Bytes) -> Result<(), Difference> {
+        for at in 1..CALL_BYTES {
+            self.with(&[&call[at..], &call].concat(), 4 * ANSWER_BYTES)?;
         }
+        Ok(())
     }
-    // every two marks
-    for mark in 0..=u16::MAX {
-        let mut bytes = start;
-        bytes[..2].copy_from_slice(&mark.to_le_bytes());
-        one(with(&bytes, 8))?;
-    }
-    // every kind with every one or two bytes behind it not zero
-    for kind in 0..=255 {
-        for first in 4..10 {
-            for second in first..10 {
-                for bit in 0..8 {
-                    let mut bytes = start;
-                    bytes[2] = kind;
-                    bytes[first] |= 1 << bit;
-                    bytes[second] |= 128 >> bit;
-                    one(with(&bytes, 8))?;
-                }
-            }
+
+    fn every_two_marks(&mut self, start: Bytes) -> Result<(), Difference> {
+        for mark in 0..=u16::MAX {
+            let mut bytes = start;
+            bytes[..2].copy_from_slice(&mark.to_le_bytes());
+            self.with(&bytes, ANSWER_BYTES)?;
         }
+        Ok(())
     }
-    // records that are none, and boards out of shape: nothing done, or BOARD for each call
-    for words in [0, 49, 50, 51] {
-        for state in [0, 3, 4, u32::MAX] {
-            for cell_words in [0, 4, 6, 4_100] {
-                let mut record = vec![0; words];
-                if let Some(word) = record.get_mut(45) {
-                    *word = state;
-                }
-                for calls in [&start[..], &start[..9], &[0; 10], &[]] {
-                    for room in [0, 7, 8, 16] {
-                        let (record, calls) = (record.clone(), calls.to_vec());
-                        one(Case { record, cells: vec![0; cell_words], calls, room })?;
+
+    /// Every kind with every one or two bytes behind it not zero.
+    fn every_kind_with_bytes_not_zero(&mut self, start: Bytes) -> Result<(), Difference> {
+        for kind in 0..=255 {
+            for first in 4..CALL_BYTES {
+                for second in first..CALL_BYTES {
+                    for bit in 0..8 {
+                        let mut bytes = start;
+                        bytes[2] = kind;
+                        bytes[first] |= 1 << bit;
+                        bytes[second] |= 128 >> bit;
+                        self.with(&bytes, ANSWER_BYTES)?;
                     }
                 }
             }
         }
+        Ok(())
     }
-    progress.end(cases);
-    Ok(cases)
+
+    /// Nothing done, or BOARD for each call.
+    fn no_records_and_boards_out_of_shape(&mut self, start: Bytes) -> Result<(), Difference> {
+        for words in [0, RECORD_WORDS - 1, RECORD_WORDS, RECORD_WORDS + 1] {
+            for state in [0, 3, 4, u32::MAX] {
+                for cell_words in [0, CELL_WORDS, CELL_WORDS + 2, MAX_CELL_WORDS + CELL_WORDS] {
+                    let mut record = vec![0; words];
+                    if let Some(word) = record.get_mut(layout::state(15)) {
+                        *word = state;
+                    }
+                    for calls in [&start[..], &start[..9], &[0; CALL_BYTES], &[]] {
+                        for room in [0, ANSWER_BYTES - 1, ANSWER_BYTES, 2 * ANSWER_BYTES] {
+                            let (record, calls) = (record.clone(), calls.to_vec());
+                            self.one(Case { record, cells: vec![0; cell_words], calls, room })?;
+                        }
+                    }
+                }
+            }
+        }
+        Ok(())
+    }
 }

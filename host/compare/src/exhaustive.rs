@@ -5,7 +5,7 @@
 //! those with calls in between that changed nothing. That such a call changed nothing is compared like all else.
 
 use crate::boards::Left;
-use crate::{shrink, Difference, Progress, Store};
+use crate::{fresh, shrink, Difference, Progress, Store};
 
 /// The sixteen calls; an update's value is given by its turn, so that no two writes of a sequence are alike.
 pub fn alphabet(turn: u32) -> Vec<[u32; 4]> {
@@ -23,7 +23,7 @@ pub fn alphabet(turn: u32) -> Vec<[u32; 4]> {
 
 /// What the last of these calls on a fresh board leaves.
 pub fn play(store: &dyn Store, cells: usize, calls: &[[u32; 4]]) -> Left {
-    let (mut record, mut words) = (vec![0; 50], vec![0; 4 * cells]);
+    let (mut record, mut words) = fresh(cells);
     let mut answer = (0, 0);
     for &numbers in calls {
         answer = store.call(&mut record, &mut words, numbers);
@@ -90,7 +90,8 @@ impl Walk<'_> {
 pub fn to_depth(a: &dyn Store, b: &dyn Store, cells: usize, deepest: usize) -> Result<u64, Difference> {
     let progress = Progress::new("sequences", 0);
     let mut walk = Walk { a, b, cells, deepest, sequences: 0, progress, path: Vec::new() };
-    walk.walk(&[0; 50], &vec![0; 4 * cells])?;
+    let (record, words) = fresh(cells);
+    walk.walk(&record, &words)?;
     Ok(walk.sequences)
 }
 

@@ -9,6 +9,7 @@
 //!
 //! Numbers of cases are for one round; `LANE_ROUNDS=n` multiplies them.
 
+use lane::layout::{CELL_WORDS, RECORD_WORDS};
 use std::io::Write;
 use std::time::{Duration, Instant};
 
@@ -32,6 +33,11 @@ impl std::fmt::Debug for Difference {
     fn fmt(&self, f: &mut std::fmt::Formatter<'_>) -> std::fmt::Result {
         f.write_str(&self.0)
     }
+}
+
+/// The words of a fresh board of so many cells: its record's and its cells'.
+pub fn fresh(cells: usize) -> (Vec<u32>, Vec<u32>) {
+    (vec![0; RECORD_WORDS], vec![0; cells * CELL_WORDS])
 }
 
 /// How many times the gate's number of cases is asked for: LANE_ROUNDS, or 1.

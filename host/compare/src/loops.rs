@@ -3,7 +3,8 @@
 
 use crate::store::Served;
 use crate::streams::{READ, RECORD};
-use crate::{Proved, Store};
+use crate::{fresh, Proved, Store};
+use lane::{ANSWER_BYTES, CALL_BYTES, MAX_CELLS};
 
 /// What is wrong with a loop.
 #[derive(Clone, Copy, Debug, PartialEq, Eq)]
@@ -62,8 +63,8 @@ impl Store for Loop {
 
     fn desk(&self, input: &[u8]) -> Vec<u8> {
         let has = |fault| self.0 == fault;
-        let fresh = || vec![0; if has(Fault::OneCell) { 4 } else { 4_096 }];
-        let (mut record, mut cells) = (vec![0; 50], fresh());
+        let begin = || fresh(if has(Fault::OneCell) { 1 } else { MAX_CELLS });
+        let (mut record, mut cells) = begin();
         let (mut bytes, mut rest, mut output) = (Vec::new(), input, Vec::new());
         let mut reads = 0;
         while !rest.is_empty() {
@@ -72,10 +73,10 @@ impl Store for Loop {
             rest = behind;
             reads += 1;
             if has(Fault::FreshRecord) {
-                record.fill(0);
+                record = begin().0;
             }
             if has(Fault::FreshCells) {
-                cells = fresh();
+                cells = begin().1;
             }
             let mut answers = vec![0; READ];
             let (taken, written, why) = self.serve(&mut record, &mut cells, &bytes, &mut answers);
@@ -83,13 +84,13 @@ impl Store for Loop {
             let no_call = why == twin::words::NO_CALL;
             let kept = match self.0 {
                 Fault::ShortAnswers => written.min(4_096),
-                Fault::StopsInSilence if no_call => written - 8,
+                Fault::StopsInSilence if no_call => written - ANSWER_BYTES,
                 _ => written,
             };
             output.extend(&answers[..kept]);
             bytes.drain(..taken);
             if no_call && has(Fault::GoesOn) {
-                bytes.drain(..10);
+                bytes.drain(..CALL_BYTES);
             } else if no_call || has(Fault::TwoReads) && reads == 2 {
                 return output;
             }

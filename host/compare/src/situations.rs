@@ -2,6 +2,7 @@
 //! `situations` plays them.
 
 use crate::{Difference, Store};
+use lane::layout::{self, RECORD_WORDS};
 use twin::board::Call;
 use twin::situations::situations;
 
@@ -22,7 +23,7 @@ pub fn compare(store: &dyn Store) -> Result<u64, Difference> {
     let mut calls = 0;
     for situation in situations() {
         for play in situation.plays {
-            let (mut record, mut cells) = (vec![0; 50], vec![0; play.words]);
+            let (mut record, mut cells) = (vec![0; RECORD_WORDS], vec![0; play.words]);
             for (call, number, value) in play.calls {
                 calls += 1;
                 let (gave, with) = store.call(&mut record, &mut cells, numbers(call));
@@ -48,7 +49,7 @@ pub fn compare(store: &dyn Store) -> Result<u64, Difference> {
 /// What a store gives for the lines of the program `situations`, in the program's words. Each line has a number, then
 /// `board N` (fresh, of N words), `goes on`, a call with what came back, or a cell with its words; the last line counts.
 pub fn replayed(store: &dyn Store, lines: &str) -> String {
-    let (mut record, mut cells) = (vec![0; 50], Vec::new());
+    let (mut record, mut cells) = (vec![0; RECORD_WORDS], Vec::new());
     let mut checks = 0;
     let mut out = String::new();
     for line in lines.lines() {
@@ -56,13 +57,13 @@ pub fn replayed(store: &dyn Store, lines: &str) -> String {
         let at = |i: usize| words[i].parse::<u32>().unwrap_or_else(|_| panic!("no number in {line}"));
         let came = match words.as_slice() {
             [_, "board", _] => {
-                (record, cells) = (vec![0; 50], vec![0; at(2) as usize]);
+                (record, cells) = (vec![0; RECORD_WORDS], vec![0; at(2) as usize]);
                 None
             }
             [_, "goes", "on"] => None,
             [_, "cell", _, "->", ..] => {
-                let cell = &cells[4 * at(2) as usize..][..4];
-                Some(format!("{} {} {} {}", cell[0], cell[1], cell[2], cell[3]))
+                let cell = cells[layout::cell(at(2) as usize)].iter().map(u32::to_string);
+                Some(cell.collect::<Vec<_>>().join(" "))
             }
             [_, "checks,", "0", "wrong"] => {
                 out += &format!("{checks} checks, 0 wrong\n");

@@ -2,18 +2,18 @@
 
 use crate::rng::Rng;
 use crate::store::desk_program;
-use crate::{codecs, shrink, Counts, Difference, Progress, Store};
+use crate::{codecs, fresh, shrink, Counts, Difference, Progress, Store};
+use lane::{State, ANSWER_BYTES, CALL_BYTES, KEYS, MAX_CELLS, PLACES};
 use std::io::{Read, Write};
 use std::sync::mpsc;
 use std::time::{Duration, Instant};
 use twin::board::Call;
 use twin::records::{call_record, read_answer, read_call};
 
-/// One call record.
-pub type Bytes = [u8; 10];
+pub use crate::codecs::Bytes;
 
 /// RECORD with place 0 and value 0.
-pub const RECORD: [u8; 8] = [0x41, 0x4E, 12, 0, 0, 0, 0, 0];
+pub const RECORD: [u8; ANSWER_BYTES] = [0x41, 0x4E, 12, 0, 0, 0, 0, 0];
 
 /// About as many bytes as the desk reads at once, and more than it reads in two reads.
 pub const READ: usize = 65_536;
@@ -66,36 +66,40 @@ fn call(which: usize, place: u32, key: u32, value: u32) -> Call {
 /// What a generator of streams keeps in mind, so that its calls are to the point: which places are idle, spoiled or
 /// prepared, and who holds a key. It decides no answer; where it is wrong, a call is only less to the point.
 struct Foresight {
-    /// 0 idle, 1 open, 2 spoiled, 3 prepared.
-    state: [u32; 16],
-    view: [u64; 16],
-    holder: [Option<u32>; 256],
-    changed: [u64; 256],
+    state: [State; PLACES as usize],
+    view: [u64; PLACES as usize],
+    holder: [Option<u32>; KEYS as usize],
+    changed: [u64; KEYS as usize],
     now: u64,
 }
 
 impl Foresight {
+    fn of_a_fresh_board() -> Foresight {
+        let (state, view) = ([State::Idle; PLACES as usize], [0; PLACES as usize]);
+        Foresight { state, view, holder: [None; KEYS as usize], changed: [0; KEYS as usize], now: 0 }
+    }
+
     fn take(&mut self, which: usize, place: u32, key: u32) {
         let at = place as usize;
         self.now += 1;
         match which {
-            0 => (self.state[at], self.view[at]) = (1, self.now),
-            2 if self.state[at] == 1 && self.holder[key as usize] != Some(place) => {
+            0 => (self.state[at], self.view[at]) = (State::Open, self.now),
+            2 if self.state[at] == State::Open && self.holder[key as usize] != Some(place) => {
                 if self.holder[key as usize].is_some() || self.changed[key as usize] > self.view[at] {
-                    self.state[at] = 2;
+                    self.state[at] = State::Spoiled;
                 } else {
                     self.holder[key as usize] = Some(place);
                 }
             }
-            3 if self.state[at] == 1 => self.state[at] = 3,
-            4 | 5 if which == 5 || self.state[at] != 2 => {
+            3 if self.state[at] == State::Open => self.state[at] = State::Prepared,
+            4 | 5 if which == 5 || self.state[at] != State::Spoiled => {
                 for (holder, changed) in self.holder.iter_mut().zip(&mut self.changed) {
                     if *holder == Some(place) {
                         *holder = None;
                         *changed = if which == 4 { self.now } else { *changed };
                     }
                 }
-                self.state[at] = 0;
+                self.state[at] = State::Idle;
             }
             _ => (),
         }
@@ -104,7 +108,7 @@ impl Foresight {
 
 /// So many calls of a kind.
 pub fn stream(rng: &mut Rng, kind: &Kind, calls: usize) -> Vec<Bytes> {
-    let mut mind = Foresight { state: [0; 16], view: [0; 16], holder: [None; 256], changed: [0; 256], now: 0 };
+    let mut mind = Foresight::of_a_fresh_board();
     let mut made = Vec::with_capacity(calls);
     while made.len() < calls {
         let value = if rng.percent(80) { rng.below(1_000) } else { rng.word() };
@@ -121,16 +125,16 @@ pub fn stream(rng: &mut Rng, kind: &Kind, calls: usize) -> Vec<Bytes> {
         } else {
             let stays = place >= kind.places - kind.staying;
             match mind.state[place as usize] {
-                0 => 0,
-                2 if rng.percent(kind.gives_up) => 5,
-                3 if rng.percent(30) => rng.pick(&[4, 4, 5]),
-                3 if rng.percent(70) => continue,
-                1 if stays && rng.below(200) > 0 => 1,
-                1 if stays => rng.pick(&[4, 5]),
+                State::Idle => 0,
+                State::Spoiled if rng.percent(kind.gives_up) => 5,
+                State::Prepared if rng.percent(30) => rng.pick(&[4, 4, 5]),
+                State::Prepared if rng.percent(70) => continue,
+                State::Open if stays && rng.below(200) > 0 => 1,
+                State::Open if stays => rng.pick(&[4, 5]),
                 _ => 1 + rng.weighted(&kind.weights),
             }
         };
-        if place < 16 && key < 256 {
+        if place < PLACES && key < KEYS {
             mind.take(which, place, key);
         }
         made.push(bytes(call(which, place, key, value)));
@@ -147,7 +151,7 @@ pub fn filled(rng: &mut Rng) -> Vec<Bytes> {
         calls.push(Call::Start { place: WRITER });
         // by key up or down, so that cells of one key are not always in the same order
         let down = rng.percent(50);
-        calls.extend((0..256).map(|k| if down { 255 - k } else { k }).map(|key| Call::Update {
+        calls.extend((0..KEYS).map(|k| if down { KEYS - 1 - k } else { k }).map(|key| Call::Update {
             place: WRITER,
             key,
             value: rng.word(),
@@ -161,7 +165,7 @@ pub fn filled(rng: &mut Rng) -> Vec<Bytes> {
         }
         calls.push(Call::Start { place: WRITER });
         for _ in 0..if close.is_none() { 12 } else { 4 } {
-            let (place, key, value) = (WRITER, rng.below(256), rng.word());
+            let (place, key, value) = (WRITER, rng.below(KEYS), rng.word());
             calls.push(Call::Update { place, key, value });
             calls.extend((0..5).map(|place| Call::Read { place, key }));
         }
@@ -182,8 +186,9 @@ fn at_once(store: &dyn Store, input: &[u8]) -> Vec<u8> {
 
 /// These bytes for `serve`, on the board that the desk begins with and with room for every answer.
 fn on_the_desks_board(input: &[u8]) -> codecs::Case {
-    let room = input.len() / 10 * 8;
-    codecs::Case { record: vec![0; 50], cells: vec![0; 4_096], calls: input.to_vec(), room }
+    let (record, cells) = fresh(MAX_CELLS);
+    let room = input.len() / CALL_BYTES * ANSWER_BYTES;
+    codecs::Case { record, cells, calls: input.to_vec(), room }
 }
 
 /// A stream on which two stores differ, made small.
@@ -199,7 +204,7 @@ fn difference(a: &dyn Store, b: &dyn Store, mut calls: Vec<Bytes>, what: &str) -
     };
     // nothing after the first answer that differs is needed
     let [x, y] = both(&calls);
-    let first = x.iter().zip(&y).position(|(p, q)| p != q).unwrap_or(x.len().min(y.len())) / 8;
+    let first = x.iter().zip(&y).position(|(p, q)| p != q).unwrap_or(x.len().min(y.len())) / ANSWER_BYTES;
     let mut prefix = calls.clone();
     prefix.truncate(first + 1);
     if differ(&prefix) {
@@ -213,7 +218,7 @@ fn difference(a: &dyn Store, b: &dyn Store, mut calls: Vec<Bytes>, what: &str) -
 
 fn bytes_difference(a: &dyn Store, b: &dyn Store, input: &[u8], what: &str) -> Difference {
     let list = |bytes: &[u8]| {
-        bytes.chunks(10).map(|c| format!("        {c:?},\n")).collect::<String>().replace(['[', ']'], "")
+        bytes.chunks(CALL_BYTES).map(|c| format!("        {c:?},\n")).collect::<String>().replace(['[', ']'], "")
     };
     Difference(format!(
         "{} and {} differ on a stream ({what}):\n// {}: {:?}\n// {}: {:?}\n#[test]\nfn found() {{\n    \
@@ -235,7 +240,7 @@ pub fn one(a: &dyn Store, b: &dyn Store, calls: &[Bytes], what: &str, counts: &m
     if output != b.desk(&input) {
         return Err(difference(a, b, calls.to_vec(), what));
     }
-    for at in (0..output.len()).step_by(8) {
+    for at in (0..output.len()).step_by(ANSWER_BYTES) {
         counts.add(read_answer(&output, at).map_or("?", |reply| twin::name(reply.answer.number)));
     }
     Ok(())
@@ -294,7 +299,7 @@ pub fn damaged(a: &dyn Store, b: &dyn Store, seed: u64, streams: usize) -> Resul
                     on_the_desks_board(&input).compare(a, b)?;
                     if is_answered(&input) {
                         answered.extend(input);
-                        answered.extend((0..16).flat_map(|place| bytes(Call::Rollback { place })));
+                        answered.extend((0..PLACES).flat_map(|place| bytes(Call::Rollback { place })));
                     } else if starts {
                         starts = false;
                         done.starts += 1;
@@ -334,20 +339,21 @@ fn with_byte(whole: &[u8], at: usize, byte: u8) -> Vec<u8> {
 
 /// Whether these are whole calls, so that a desk answers them all and would read on.
 fn is_answered(input: &[u8]) -> bool {
-    input.len().is_multiple_of(10) && (0..input.len()).step_by(10).all(|at| read_call(input, at).is_some())
+    input.len().is_multiple_of(CALL_BYTES)
+        && (0..input.len()).step_by(CALL_BYTES).all(|at| read_call(input, at).is_some())
 }
 
 /// Streams longer than what the desk reads at once, from a file, so that each read fills its buffer and a record may be
 /// cut between two reads: whole; cut at the end; with bytes that are no call before such a cut, at it, behind it and far
 /// behind it. Gives how many they were.
 pub fn long(a: &dyn Store, b: &dyn Store, seed: u64) -> Result<u64, Difference> {
-    let mut whole = stream(&mut Rng::new(seed), &KINDS[0], LONG / 10).concat();
+    let mut whole = stream(&mut Rng::new(seed), &KINDS[0], LONG / CALL_BYTES).concat();
     let mut inputs = vec![whole.clone()];
     inputs.extend([1, 5, 9].map(|less| whole[..LONG - less].to_vec()));
     for at in [READ - 16, READ - 6, READ - 1, READ, READ + 3, READ + 4, 100_000, 2 * READ - 7, 2 * READ - 6, LONG - 10]
     {
         // within a start, which is no call with any other byte but its place
-        whole[at / 10 * 10..][..10].copy_from_slice(&bytes(Call::Start { place: 0 }));
+        whole[at / CALL_BYTES * CALL_BYTES..][..CALL_BYTES].copy_from_slice(&bytes(Call::Start { place: 0 }));
         inputs.push(with_byte(&whole, at, !whole[at]));
     }
     let cases = inputs.len() as u64;
@@ -375,7 +381,7 @@ fn conversation<'a>(parts: impl Iterator<Item = &'a [u8]>) -> Vec<u8> {
     let mut from = desk.stdout.take().expect("piped");
     let (send, answers) = mpsc::channel();
     let reader = std::thread::spawn(move || {
-        let mut answer = [0; 8];
+        let mut answer = [0; ANSWER_BYTES];
         while from.read_exact(&mut answer).is_ok() {
             send.send(answer).expect("the console waits");
         }
@@ -384,7 +390,7 @@ fn conversation<'a>(parts: impl Iterator<Item = &'a [u8]>) -> Vec<u8> {
     for part in parts {
         to.write_all(part).expect("the desk reads");
         sent += part.len();
-        while output.len() < sent / 10 * 8 {
+        while output.len() < sent / CALL_BYTES * ANSWER_BYTES {
             // no measure of speed: without it a desk that waits for more input would hold up the tests for ever
             let answer = answers.recv_timeout(Duration::from_secs(300)).expect("an answer before more is sent");
             output.extend(answer);
@@ -402,7 +408,7 @@ fn conversation<'a>(parts: impl Iterator<Item = &'a [u8]>) -> Vec<u8> {
 pub fn waiting(b: &dyn Store, seed: u64, calls: usize) {
     let mut rng = Rng::new(seed);
     let stream = stream(&mut rng, &KINDS[0], calls);
-    let parts = stream.iter().flat_map(|call| <[&[u8]; 2]>::from(call.split_at(rng.below(10) as usize)));
+    let parts = stream.iter().flat_map(|call| <[&[u8]; 2]>::from(call.split_at(rng.below(CALL_BYTES as u32) as usize)));
     assert!(conversation(parts) == b.desk(&stream.concat()), "a console that waits gets other answers");
 }
 
@@ -410,7 +416,7 @@ pub fn waiting(b: &dyn Store, seed: u64, calls: usize) {
 /// but a few ends within a record, and what comes of that record is kept for the next read.
 pub fn in_parts(b: &dyn Store, seed: u64) {
     let mut rng = Rng::new(seed);
-    let mut whole = stream(&mut rng, &KINDS[1], LONG / 10).concat();
+    let mut whole = stream(&mut rng, &KINDS[1], LONG / CALL_BYTES).concat();
     whole.truncate(LONG - 3);
     let (mut parts, mut rest) = (Vec::new(), &whole[..]);
     while !rest.is_empty() {
@@ -439,7 +445,7 @@ pub fn pieces(a: &dyn Store, b: &dyn Store, seed: u64, calls: u64) -> Result<Cou
             input[at] = rng.word() as u8;
         }
         done += 400;
-        let (mut record, mut words) = (vec![0; 50], vec![0; 4 * cells]);
+        let (mut record, mut words) = fresh(cells);
         let (mut at, mut given) = (0, 0);
         loop {
             // a little more is given each time; what was not taken is given again
@@ -448,12 +454,12 @@ pub fn pieces(a: &dyn Store, b: &dyn Store, seed: u64, calls: u64) -> Result<Cou
             let case = codecs::Case { record, cells: words, calls: input[at..given].to_vec(), room };
             case.compare(a, b)?;
             let ((taken, written, why), answers, left, cells_left) = case.play(a);
-            for answer in (0..written as usize).step_by(8) {
+            for answer in (0..written as usize).step_by(ANSWER_BYTES) {
                 counts.add(read_answer(&answers, answer).map_or("?", |reply| twin::name(reply.answer.number)));
             }
             (record, words) = (left, cells_left);
             at += taken as usize;
-            if why == 1 || (given == input.len() && input.len() - at < 10) {
+            if why == 1 || (given == input.len() && input.len() - at < CALL_BYTES) {
                 break;
             }
         }

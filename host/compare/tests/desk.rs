@@ -4,6 +4,7 @@
 use compare::loops::{Fault, Loop, FAULTS};
 use compare::store::{desk_program, start};
 use compare::{program, rng, rounds, say, streams, Counts, Proved, Store, Twin};
+use lane::ANSWER_BYTES;
 use std::fs::{self, File};
 use std::io::{ErrorKind, Read, Write};
 use std::path::{Path, PathBuf};
@@ -76,7 +77,7 @@ fn wrong_loops_are_caught() {
 }
 
 /// A start at place 0.
-const START: [u8; 10] = [0x43, 0x4C, 1, 0, 0, 0, 0, 0, 0, 0];
+const START: streams::Bytes = [0x43, 0x4C, 1, 0, 0, 0, 0, 0, 0, 0];
 
 /// Waits for the end of a desk that is to stop by itself.
 fn ended(mut desk: Child) -> ExitStatus {
@@ -127,7 +128,7 @@ fn the_desk_runs_behind_the_emulator_if_there_is_one() {
     let mut desk = desk_program();
     let (mut to, mut from) = (desk.stdin.take().expect("piped"), desk.stdout.take().expect("piped"));
     to.write_all(&START).expect("the desk reads");
-    from.read_exact(&mut [0; 8]).expect("an answer: it runs");
+    from.read_exact(&mut [0; ANSWER_BYTES]).expect("an answer: it runs");
     let runs = fs::read_link(format!("/proc/{}/exe", desk.id())).expect("/proc");
     assert_eq!(runs.ends_with("target/bin/desk"), program::emulator().is_none(), "{}", runs.display());
     drop(to);

@@ -3,21 +3,21 @@
 
 use compare::store::SHORTCUTS;
 use compare::{boards, codecs, exhaustive, rounds, say, situations, streams, Proved, Store, Twin};
+use lane::Refusal;
 
 /// The gate's numbers of cases for one round.
 const BOARDS: u64 = 300_000;
 const PIECE_CALLS: u64 = 200_000;
 const SEQUENCES: u64 = 500_000;
 
-const NUMBERS: [&str; 13] = [
-    "OK", "BOARD", "PLACE", "BUSY", "IDLE", "WORN", "SPOILED", "HELD", "KEY", "CONFLICT", "PREPARED", "FULL", "RECORD",
-];
-
 fn boards(seed: u64) {
     say(&format!("boards: seed {seed:#x}"));
     let half = BOARDS / 2 * rounds();
     let (branches, numbers) = boards::compare(&Proved, &Twin, seed, half).unwrap();
-    numbers.met("boards, answers", &NUMBERS, half / 200);
+    // what one call can be answered: OK and document 01's refusals
+    let refusals = Refusal::ALL[..Refusal::Record as usize].iter().map(|refusal| refusal.name());
+    let all: Vec<&str> = ["OK"].into_iter().chain(refusals).collect();
+    numbers.met("boards, answers", &all, half / 200);
     branches.met("boards, branches", &boards::BRANCHES, half / 3_000);
 }
 

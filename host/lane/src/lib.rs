@@ -20,10 +20,13 @@
 //! # Ok::<(), Refusal>(())
 //! ```
 
-use std::fmt;
+use layout::{CELL_WORDS, COMMITS, RECORD_WORDS, STARTS};
 
+pub mod layout;
+pub mod refusal;
 pub mod words;
 
+pub use refusal::Refusal;
 pub use words::{Served, Why};
 
 /// Places are 0 to 15.
@@ -32,6 +35,8 @@ pub const PLACES: u32 = 16;
 pub const KEYS: u32 = 256;
 /// A board has 1 to 1,024 cells.
 pub const MAX_CELLS: usize = 1_024;
+/// The start count is at most 4,000,000,000.
+pub const MAX_STARTS: u32 = 4_000_000_000;
 /// Bytes of a call record.
 pub const CALL_BYTES: usize = 10;
 /// Bytes of an answer record.
@@ -73,83 +78,14 @@ impl Call {
 /// A refusal changes nothing, but for [`Refusal::Conflict`], which spoils the caller's transaction.
 pub type Answer = Result<u32, Refusal>;
 
-/// The refusals of document 01 with their numbers.
+/// The state of a place, with its word.
 #[derive(Clone, Copy, Debug, PartialEq, Eq, Hash)]
 #[repr(u32)]
-pub enum Refusal {
-    /// The board is not in shape. Never given by a board begun with [`Board::new`].
-    Board = 1,
-    /// Place above 15.
-    Place = 2,
-    /// Start at a place that is not idle.
-    Busy = 3,
-    /// Another call at an idle place.
-    Idle = 4,
-    /// Start with the start count at 4,000,000,000.
-    Worn = 5,
-    /// Read, update, prepare or commit on a spoiled transaction: roll it back.
-    Spoiled = 6,
-    /// Read, update or prepare on a prepared transaction.
-    Held = 7,
-    /// Key above 255.
-    Key = 8,
-    /// Another writer holds the key, or changed it after the caller's view. The transaction is spoiled now.
-    Conflict = 9,
-    /// A prepared writer holds the key: ask again when it has committed or rolled back.
-    Prepared = 10,
-    /// No cell is empty or spent.
-    Full = 11,
-    /// A kind or bytes that are no call.
-    Record = 12,
-}
-
-impl Refusal {
-    /// All of them, by number: `ALL[n - 1]` has number n.
-    pub const ALL: [Refusal; 12] = [
-        Refusal::Board,
-        Refusal::Place,
-        Refusal::Busy,
-        Refusal::Idle,
-        Refusal::Worn,
-        Refusal::Spoiled,
-        Refusal::Held,
-        Refusal::Key,
-        Refusal::Conflict,
-        Refusal::Prepared,
-        Refusal::Full,
-        Refusal::Record,
-    ];
-
-    /// The refusal number, 1 to 12.
-    pub fn number(self) -> u32 {
-        self as u32
-    }
-
-    /// The name in document 01's table.
-    pub fn name(self) -> &'static str {
-        const NAMES: [&str; 12] = [
-            "BOARD", "PLACE", "BUSY", "IDLE", "WORN", "SPOILED", "HELD", "KEY", "CONFLICT", "PREPARED", "FULL",
-            "RECORD",
-        ];
-        NAMES[self as usize - 1]
-    }
-}
-
-impl fmt::Display for Refusal {
-    fn fmt(&self, f: &mut fmt::Formatter<'_>) -> fmt::Result {
-        f.write_str(self.name())
-    }
-}
-
-impl std::error::Error for Refusal {}
-
-/// The state of a place.
-#[derive(Clone, Copy, Debug, PartialEq, Eq, Hash)]
 pub enum State {
-    Idle,
-    Open,
-    Spoiled,
-    Prepared,
+    Idle = 0,
+    Open = 1,
+    Spoiled = 2,
+    Prepared = 3,
 }
 
 /// A place of a board: its state, and the number and view of its transaction.
@@ -173,8 +109,8 @@ pub struct Cell {
 
 /// A board: the record of its sixteen places and two counts, and its cells.
 ///
-/// It is begun fresh and changed by calls alone, so it stays in shape. (For words that came from elsewhere there is
-/// [`words::call`].)
+/// It is begun fresh and changed by calls alone, so it stays in shape and never answers [`Refusal::Board`]. (For words that
+/// came from elsewhere there is [`words::call`].)
 ///
 /// ```
 /// use lane::{Board, Call, Refusal, State};
@@ -192,14 +128,14 @@ pub struct Cell {
 /// ```
 #[derive(Clone, Debug, PartialEq, Eq)]
 pub struct Board {
-    record: [u32; words::RECORD_WORDS],
+    record: [u32; RECORD_WORDS],
     cells: Vec<u32>,
 }
 
 impl Board {
     /// A fresh board. None unless it has 1 to 1,024 cells.
     pub fn new(cells: usize) -> Option<Board> {
-        let fresh = || Board { record: [0; words::RECORD_WORDS], cells: vec![0; 4 * cells] };
+        let fresh = || Board { record: [0; RECORD_WORDS], cells: vec![0; cells * CELL_WORDS] };
         (1..=MAX_CELLS).contains(&cells).then(fresh)
     }
 
@@ -259,34 +195,31 @@ impl Board {
 
     /// The place with this number, 0 to 15.
     pub fn place(&self, place: usize) -> Option<Place> {
-        let [state, number, view] = *self.record[..48].as_chunks().0.get(place)?;
-        let state = [State::Idle, State::Open, State::Spoiled, State::Prepared][state as usize];
-        Some(Place { state, number, view })
+        Place::of(*self.record[..STARTS].as_chunks().0.get(place)?)
     }
 
     /// The cell with this number; None where there is none, or it is empty.
     pub fn cell(&self, i: usize) -> Option<Cell> {
-        let [word, value, number, commit] = *self.cells.as_chunks().0.get(i)?;
-        Some(Cell { key: word.checked_sub(1)?, value, number, commit })
+        Cell::of(*self.cells.as_chunks().0.get(i)?)
     }
 
     /// How many cells the board has.
     pub fn cells(&self) -> usize {
-        self.cells.len() / 4
+        self.cells.len() / CELL_WORDS
     }
 
     /// How many transactions were started.
     pub fn starts(&self) -> u32 {
-        self.record[48]
+        self.record[STARTS]
     }
 
     /// How many transactions were committed.
     pub fn commits(&self) -> u32 {
-        self.record[49]
+        self.record[COMMITS]
     }
 
-    /// The record's fifty words, as `include/lane.h` lays them out.
-    pub fn record_words(&self) -> &[u32; words::RECORD_WORDS] {
+    /// The record's words, as [`layout`] has them.
+    pub fn record_words(&self) -> &[u32; RECORD_WORDS] {
         &self.record
     }
 

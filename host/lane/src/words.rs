@@ -5,8 +5,7 @@
 
 use crate::{Answer, Refusal};
 
-/// The words of a record: state, number and view of sixteen places, then the start count and the commit count.
-pub const RECORD_WORDS: usize = 50;
+pub use crate::layout::RECORD_WORDS;
 
 /// What [`serve`] did.
 #[derive(Clone, Copy, Debug, PartialEq, Eq, Hash)]
@@ -27,7 +26,7 @@ pub enum Why {
     NoCall,
     /// Fewer than eight bytes are left to write the next answer in.
     NoRoom,
-    /// The record is not 50 words, or has a state word above 3. Nothing was done.
+    /// The record is not of [`RECORD_WORDS`] words, or has a state word above 3. Nothing was done.
     NoBoard,
 }
 
@@ -66,23 +65,23 @@ mod c {
 }
 
 /// One call by its numbers on any words. A kind other than 1 to 6 is RECORD before anything else; a record of other
-/// than 50 words, or with a state word above 3, is BOARD; on both nothing changes.
+/// than [`RECORD_WORDS`] words, or with a state word above 3, is BOARD; on both nothing changes.
 ///
 /// ```
 /// use lane::{words, Refusal};
 ///
-/// let (mut record, mut cells) = ([0; 50], [0; 16]);
+/// let (mut record, mut cells) = ([0; words::RECORD_WORDS], [0; 16]);
 /// assert_eq!(words::call(&mut record, &mut cells, 1, 0, 0, 0), Ok(1));
 /// assert_eq!(record[..3], [1, 1, 0]); // place 0 is open, transaction 1, view 0
 /// assert_eq!(words::call(&mut record, &mut cells, 9, 0, 0, 0), Err(Refusal::Record));
-/// assert_eq!(words::call(&mut record[..49], &mut cells, 1, 0, 0, 0), Err(Refusal::Board));
+/// assert_eq!(words::call(&mut record[1..], &mut cells, 1, 0, 0, 0), Err(Refusal::Board));
 /// assert_eq!(words::call(&mut record, &mut cells[..6], 1, 1, 0, 0), Err(Refusal::Board));
 /// ```
 pub fn call(record: &mut [u32], cells: &mut [u32], kind: u32, place: u32, key: u32, value: u32) -> Answer {
     let both = call_number(record, cells, kind, place, key, value);
-    match (both >> 32) as usize {
+    match (both >> 32) as u32 {
         0 => Ok(both as u32),
-        number => Err(Refusal::ALL[number - 1]),
+        number => Err(Refusal::numbered(number).expect("a number of the table, as is proved")),
     }
 }
 
@@ -100,9 +99,9 @@ pub fn call_number(record: &mut [u32], cells: &mut [u32], kind: u32, place: u32,
 /// those written stay as they were.
 ///
 /// ```
-/// use lane::words::{serve, Why};
+/// use lane::words::{serve, Why, RECORD_WORDS};
 ///
-/// let (mut record, mut cells, mut answers) = ([0; 50], [0; 4], [0xFF; 16]);
+/// let (mut record, mut cells, mut answers) = ([0; RECORD_WORDS], [0; 4], [0xFF; 16]);
 /// let served = serve(&mut record, &mut cells, b"CL\x01\x04\0\0\0\0\0\0CL\x00", &mut answers);
 /// assert_eq!((served.taken, served.written, served.why), (10, 8, Why::End));
 /// assert_eq!(answers, *b"AN\0\x04\x01\0\0\0\xFF\xFF\xFF\xFF\xFF\xFF\xFF\xFF");

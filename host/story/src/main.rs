@@ -1,6 +1,6 @@
 //! `./lane story`: the second release of document 01, call by call on the proved board, and how it is refused.
 
-use lane::{Answer, Board, Call, Refusal, State};
+use lane::{Answer, Board, Call, Refusal, State, PLACES};
 use std::fmt::Write as _;
 use std::io::Write as _;
 use std::process::ExitCode;
@@ -56,13 +56,14 @@ fn named(call: Call) -> String {
 fn told(answer: Answer) -> String {
     match answer {
         Ok(value) => format!("OK {value}"),
-        Err(refusal) => refusal.name().into(),
+        Err(refusal) => refusal.to_string(),
     }
 }
 
 /// The places that are not idle and the counts, in one line.
 fn places(board: &Board) -> String {
-    let busy = (0..16).filter_map(|i| board.place(i).map(|place| (i, place))).filter(|(_, p)| p.state != State::Idle);
+    let places = (0..PLACES as usize).filter_map(|i| board.place(i).map(|place| (i, place)));
+    let busy = places.filter(|(_, p)| p.state != State::Idle);
     let mut said: Vec<String> = busy
         .map(|(i, p)| {
             let state = format!("{:?}", p.state).to_lowercase();
@@ -101,6 +102,9 @@ fn story() -> (String, bool) {
             writeln!(out, "\nDocument 01 gives {} here: this build of the board is wrong.", told(line.answer)).unwrap();
             return (out, false);
         }
+        if let Err(refusal) = answer {
+            writeln!(out, "     What to do next: {}.", refusal.row().next).unwrap();
+        }
         if board.record_words() != before.record_words() {
             out += &places(&board);
         }
@@ -109,7 +113,12 @@ fn story() -> (String, bool) {
         }
         out += "\n";
     }
-    out += "The second release was refused: CONFLICT. Truck 12 still holds segment 7, and place 1 knows it now.\n";
+    let refusal = Refusal::Conflict;
+    writeln!(
+        out,
+        "The second release was refused: {refusal}. Truck 12 still holds segment 7, and place 1 knows it now."
+    )
+    .unwrap();
     (out, true)
 }
 

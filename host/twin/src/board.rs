@@ -6,6 +6,8 @@ pub const PLACES: usize = 16;
 pub const KEYS: u32 = 256;
 /// "1 to 1,024 cells"
 pub const CELLS: usize = 1_024;
+/// "four to a cell"
+pub const CELL_WORDS: usize = 4;
 /// "the start count is at most 4,000,000,000"
 pub const STARTS: u32 = 4_000_000_000;
 
@@ -155,22 +157,27 @@ impl Board {
     /// "A fresh board has every place idle with number and view 0, both counts 0 and every word 0."
     pub fn fresh(cells: usize) -> Board {
         let idle = Place { state: State::Idle, number: 0, view: 0 };
-        Board { record: Record { places: [idle; PLACES], starts: 0, commits: 0 }, cells: vec![0; 4 * cells] }
+        Board { record: Record { places: [idle; PLACES], starts: 0, commits: 0 }, cells: vec![0; cells * CELL_WORDS] }
+    }
+
+    /// How many whole cells there are.
+    fn count(&self) -> usize {
+        self.cells.len() / CELL_WORDS
     }
 
     /// The cell with this number.
     pub fn cell(&self, i: usize) -> Cell {
-        let w = &self.cells[4 * i..4 * i + 4];
-        Cell { word: w[0], value: w[1], number: w[2], commit: w[3] }
+        let [word, value, number, commit] = self.cells.as_chunks::<CELL_WORDS>().0[i];
+        Cell { word, value, number, commit }
     }
 
-    fn put(&mut self, i: usize, cell: Cell) {
-        self.cells[4 * i..4 * i + 4].copy_from_slice(&[cell.word, cell.value, cell.number, cell.commit]);
+    fn put(&mut self, i: usize, Cell { word, value, number, commit }: Cell) {
+        self.cells.as_chunks_mut::<CELL_WORDS>().0[i] = [word, value, number, commit];
     }
 
     /// The whole cells, in the order of their numbers.
     pub fn all(&self) -> impl Iterator<Item = Cell> + '_ {
-        (0..self.cells.len() / 4).map(|i| self.cell(i))
+        (0..self.count()).map(|i| self.cell(i))
     }
 
     /// "A board is **in shape** if .."
@@ -180,7 +187,7 @@ impl Board {
 
         // "a length that is a multiple of 4, from 4 to 4,096 words"
         let words = self.cells.len();
-        let length = words.is_multiple_of(4) && (4..=4_096).contains(&words);
+        let length = words.is_multiple_of(CELL_WORDS) && (CELL_WORDS..=CELLS * CELL_WORDS).contains(&words);
         // "the start count is at most 4,000,000,000"
         let starts = record.starts <= STARTS;
         // "the commit count plus the number of places not idle is at most the start count"
@@ -288,7 +295,7 @@ impl Board {
             return refused(CONFLICT);
         }
         // "Otherwise the lowest-numbered empty or spent cell is written whole; FULL if there is none."
-        match (0..self.cells.len() / 4).find(|&i| self.cell(i).empty() || self.spent(self.cell(i))) {
+        match (0..self.count()).find(|&i| self.cell(i).empty() || self.spent(self.cell(i))) {
             Some(i) => {
                 self.put(i, Cell { word: key + 1, value, number: t, commit: 0 });
                 ok(0)
@@ -309,7 +316,7 @@ impl Board {
         let t = self.record.places[at].number;
         self.record.commits += 1;
         let commit = self.record.commits;
-        for i in 0..self.cells.len() / 4 {
+        for i in 0..self.count() {
             let cell = self.cell(i);
             if cell.own(t) {
                 self.put(i, Cell { commit, ..cell });
@@ -322,7 +329,7 @@ impl Board {
     /// "**Rollback**, in any state: every own cell becomes four zeros; the place becomes idle."
     fn rollback(&mut self, at: usize) -> Answer {
         let t = self.record.places[at].number;
-        for i in 0..self.cells.len() / 4 {
+        for i in 0..self.count() {
             if self.cell(i).own(t) {
                 self.put(i, Cell { word: 0, value: 0, number: 0, commit: 0 });
             }
@@ -338,7 +345,7 @@ impl Board {
 
     /// The number of the lowest own cell of the key.
     pub fn lowest_own(&self, t: u32, key: u32) -> Option<usize> {
-        (0..self.cells.len() / 4).find(|&i| self.cell(i).of_key(key) && self.cell(i).own(t))
+        (0..self.count()).find(|&i| self.cell(i).of_key(key) && self.cell(i).own(t))
     }
 
     fn at_prepared_place(&self, number: u32) -> bool {

@@ -7,8 +7,8 @@
 //!
 //! - [`board`]: the record, the cells, in shape, the six steps;
 //! - [`records`]: call and answer records, to bytes and back, at any offset;
-//! - [`words`]: the same board behind the C interface's numbers: a record of 50 words, a kind, three numbers;
-//! - [`desk`]: what the desk program writes for what it reads;
+//! - [`words`]: the same board behind the C interface's numbers: a record as words, a kind, three numbers;
+//! - [`mod@desk`]: what the desk program writes for what it reads;
 //! - [`situations`]: the eleven situations of document 01 as a list.
 
 pub mod board;

@@ -4,40 +4,54 @@
 use super::board::{Answer, Board, Call, Place, Record, State, BOARD, PLACES, RECORD};
 use super::records::{read_call, write_answer, Reply, ANSWER_BYTES, CALL_BYTES};
 
+/// "for place i, words 3i .., 3i + 1 .., 3i + 2"
+const PLACE_WORDS: usize = 3;
+/// "word 48 the start count"
+const START_COUNT: usize = PLACES * PLACE_WORDS;
+/// "word 49 the commit count"
+const COMMIT_COUNT: usize = START_COUNT + 1;
 /// The words of a record.
-pub const RECORD_WORDS: usize = 50;
+pub const RECORD_WORDS: usize = COMMIT_COUNT + 1;
 
-/// The record in these words; None if they are not 50 or a state word is above 3.
+/// The place in these words, unless the state word is above 3.
+fn place_of([state, number, view]: [u32; PLACE_WORDS]) -> Option<Place> {
+    let state = match state {
+        0 => State::Idle,
+        1 => State::Open,
+        2 => State::Spoiled,
+        3 => State::Prepared,
+        _ => return None,
+    };
+    Some(Place { state, number, view })
+}
+
+/// The words of this place.
+fn words_of_place(Place { state, number, view }: Place) -> [u32; PLACE_WORDS] {
+    [state as u32, number, view]
+}
+
+/// The record in these words; None if their count is another or a state word is above 3.
 pub fn record_of(words: &[u32]) -> Option<Record> {
     if words.len() != RECORD_WORDS {
         return None;
     }
     let mut record = Board::fresh(0).record;
-    for i in 0..PLACES {
-        let state = match words[3 * i] {
-            0 => State::Idle,
-            1 => State::Open,
-            2 => State::Spoiled,
-            3 => State::Prepared,
-            _ => return None,
-        };
-        record.places[i] = Place { state, number: words[3 * i + 1], view: words[3 * i + 2] };
+    for (place, words) in record.places.iter_mut().zip(words.as_chunks().0) {
+        *place = place_of(*words)?;
     }
-    record.starts = words[48];
-    record.commits = words[49];
+    record.starts = words[START_COUNT];
+    record.commits = words[COMMIT_COUNT];
     Some(record)
 }
 
 /// The words of this record.
 pub fn words_of(record: &Record) -> [u32; RECORD_WORDS] {
     let mut words = [0; RECORD_WORDS];
-    for (i, place) in record.places.iter().enumerate() {
-        words[3 * i] = place.state as u32;
-        words[3 * i + 1] = place.number;
-        words[3 * i + 2] = place.view;
+    for (place, words) in record.places.iter().zip(words.as_chunks_mut().0) {
+        *words = words_of_place(*place);
     }
-    words[48] = record.starts;
-    words[49] = record.commits;
+    words[START_COUNT] = record.starts;
+    words[COMMIT_COUNT] = record.commits;
     words
 }
 

@@ -218,125 +218,126 @@ fn with_edit(text: usize, old: &str, new: &str) -> Vec<String> {
     found
 }
 
+/// Edits, each with the text that it is made in, and what must be said first.
+const PLANTED: &[(usize, &str, &str, &str)] = &[
+    (
+        0,
+        "place: u32, key: u32",
+        "key: u32, place: u32",
+        "lane.h:15: lane_serve: parameter 7 is `place: u32`, in lib.rt:14 `key: u32`",
+    ),
+    (
+        1,
+        "uint32_t place, uint32_t key",
+        "uint32_t key, uint32_t place",
+        "lane.h:15: lane_serve: parameter 7 is `key: u32`, in lib.rt:14 `place: u32`",
+    ),
+    (
+        2,
+        "place: u32, key: u32",
+        "key: u32, place: u32",
+        "words.rs:10: lane_serve: parameter 7 is `key: u32`, in lib.rt:14 `place: u32`",
+    ),
+    (
+        0,
+        "pub taken: u64,\n        pub written: u64,",
+        "pub written: u64,\n        pub taken: u64,",
+        "lane.h:9: lane_served: field 1 is `taken: u64`, in lib.rt:4 `written: u64`",
+    ),
+    (
+        0,
+        "pub taken: u64,\n        pub written: u64,\n        pub why: u32,",
+        "pub why: u32, pub written: u64, pub taken: u64",
+        "lane.h:9: lane_served: field 1 is `taken: u64`, in lib.rt:4 `why: u32`",
+    ),
+    (
+        1,
+        "uint64_t taken, written;",
+        "uint64_t written, taken;",
+        "lane.h:9: lane_served: field 1 is `written: u64`, in lib.rt:4 `taken: u64`",
+    ),
+    (
+        2,
+        "pub taken: u64, pub written: u64",
+        "pub written: u64, pub taken: u64",
+        "words.rs:6: lane_served: field 1 is `written: u64`, in lib.rt:4 `taken: u64`",
+    ),
+    (
+        2,
+        "pub kind: u32, pub place: u32",
+        "pub place: u32, pub kind: u32",
+        "words.rs:8: lane_pair: field 1 is `place: u32`, in lib.rt:11 `kind: u32`",
+    ),
+    // slices: exchanged, of another width, lent for writing, the lengths exchanged
+    (
+        0,
+        "calls: &[u8], entries: &mut [u8]",
+        "entries: &mut [u8], calls: &[u8]",
+        "lane.h:15: lane_serve: parameter 3 is `calls: *const u8`, in lib.rt:14 `entries: *mut u8`",
+    ),
+    (
+        0,
+        "calls: &[u8]",
+        "calls: &[u32]",
+        "lane.h:15: lane_serve: parameter 3 is `calls: *const u8`, in lib.rt:14 `calls: *const u32`",
+    ),
+    (
+        1,
+        "const uint8_t *calls",
+        "uint8_t *calls",
+        "lane.h:15: lane_serve: parameter 3 is `calls: *mut u8`, in lib.rt:14 `calls: *const u8`",
+    ),
+    (
+        1,
+        "size_t call_bytes",
+        "size_t entry_bytes_too",
+        "lane.h:15: lane_serve: parameter 4 is `entry_bytes_too: usize`, in lib.rt:14 `call_bytes: usize`",
+    ),
+    (
+        1,
+        "const struct lane_pair *pairs",
+        "const struct lane_served *pairs",
+        "lane.h:17: lane_judge: parameter 1 is `pairs: *const lane_served`, in lib.rt:22 `pairs: *const lane_pair`",
+    ),
+    // widths, counts, results, what one side alone has
+    (1, "uint32_t why", "uint64_t why", "lane.h:9: lane_served: field 3 is `why: u64`, in lib.rt:4 `why: u32`"),
+    (1, ", uint32_t key)", ")", "lane.h:15: lane_serve has 7 parameters, in lib.rt:14 8"),
+    (1, "lane_level(void)", "lane_level(uint32_t level)", "lane.h:18: lane_level has 1 parameters, in lib.rt:24 0"),
+    (1, "uint32_t lane_level", "uint64_t lane_level", "lane.h:18: lane_level gives `u64`, in lib.rt:24 `u32`"),
+    (1, "uint32_t lane_level(void);", "", "lane.h has no lane_level, which lib.rt:24 has"),
+    (2, "pub fn lane_level() -> u32;", "", "words.rs has no lane_level, which lib.rt:24 has"),
+    (0, "pub extern \"C\" fn lane_level() -> u32 { 1 }", "", "lane.h:18: lane_level is not exported"),
+    // what C could not find, has no fixed layout, or is not understood
+    (
+        0,
+        "#[no_mangle]\n    pub extern \"C\" fn lane_level",
+        "pub extern \"C\" fn lane_level",
+        "lib.rt:23: lane_level is not #[no_mangle]",
+    ),
+    (
+        0,
+        "#[repr(C)]\n    pub struct LanePair",
+        "pub struct LanePair",
+        "lib.rt:21: lane_judge: `*const lane_pair` is no number and no C struct",
+    ),
+    (
+        1,
+        "uint32_t lane_level(void)",
+        "int lane_level(void)",
+        "lane.h:18: lane_level: `int` is no number and no C struct",
+    ),
+    (
+        1,
+        "uint32_t lane_level(void);",
+        "typedef uint32_t lane_word;",
+        "lane.h:18: not understood: typedef uint32_t lane_word",
+    ),
+];
+
 #[test]
 fn what_was_planted_is_found() {
     assert_eq!(with_edit(0, "lane_gone", "lane_away"), Vec::<String>::new());
-    // the text, what is edited in it, and what must be said first
-    let planted = [
-        (
-            0,
-            "place: u32, key: u32",
-            "key: u32, place: u32",
-            "lane.h:15: lane_serve: parameter 7 is `place: u32`, in lib.rt:14 `key: u32`",
-        ),
-        (
-            1,
-            "uint32_t place, uint32_t key",
-            "uint32_t key, uint32_t place",
-            "lane.h:15: lane_serve: parameter 7 is `key: u32`, in lib.rt:14 `place: u32`",
-        ),
-        (
-            2,
-            "place: u32, key: u32",
-            "key: u32, place: u32",
-            "words.rs:10: lane_serve: parameter 7 is `key: u32`, in lib.rt:14 `place: u32`",
-        ),
-        (
-            0,
-            "pub taken: u64,\n        pub written: u64,",
-            "pub written: u64,\n        pub taken: u64,",
-            "lane.h:9: lane_served: field 1 is `taken: u64`, in lib.rt:4 `written: u64`",
-        ),
-        (
-            0,
-            "pub taken: u64,\n        pub written: u64,\n        pub why: u32,",
-            "pub why: u32, pub written: u64, pub taken: u64",
-            "lane.h:9: lane_served: field 1 is `taken: u64`, in lib.rt:4 `why: u32`",
-        ),
-        (
-            1,
-            "uint64_t taken, written;",
-            "uint64_t written, taken;",
-            "lane.h:9: lane_served: field 1 is `written: u64`, in lib.rt:4 `taken: u64`",
-        ),
-        (
-            2,
-            "pub taken: u64, pub written: u64",
-            "pub written: u64, pub taken: u64",
-            "words.rs:6: lane_served: field 1 is `written: u64`, in lib.rt:4 `taken: u64`",
-        ),
-        (
-            2,
-            "pub kind: u32, pub place: u32",
-            "pub place: u32, pub kind: u32",
-            "words.rs:8: lane_pair: field 1 is `place: u32`, in lib.rt:11 `kind: u32`",
-        ),
-        // slices: exchanged, of another width, lent for writing, the lengths exchanged
-        (
-            0,
-            "calls: &[u8], entries: &mut [u8]",
-            "entries: &mut [u8], calls: &[u8]",
-            "lane.h:15: lane_serve: parameter 3 is `calls: *const u8`, in lib.rt:14 `entries: *mut u8`",
-        ),
-        (
-            0,
-            "calls: &[u8]",
-            "calls: &[u32]",
-            "lane.h:15: lane_serve: parameter 3 is `calls: *const u8`, in lib.rt:14 `calls: *const u32`",
-        ),
-        (
-            1,
-            "const uint8_t *calls",
-            "uint8_t *calls",
-            "lane.h:15: lane_serve: parameter 3 is `calls: *mut u8`, in lib.rt:14 `calls: *const u8`",
-        ),
-        (
-            1,
-            "size_t call_bytes",
-            "size_t entry_bytes_too",
-            "lane.h:15: lane_serve: parameter 4 is `entry_bytes_too: usize`, in lib.rt:14 `call_bytes: usize`",
-        ),
-        (
-            1,
-            "const struct lane_pair *pairs",
-            "const struct lane_served *pairs",
-            "lane.h:17: lane_judge: parameter 1 is `pairs: *const lane_served`, in lib.rt:22 `pairs: *const lane_pair`",
-        ),
-        // widths, counts, results, what one side alone has
-        (1, "uint32_t why", "uint64_t why", "lane.h:9: lane_served: field 3 is `why: u64`, in lib.rt:4 `why: u32`"),
-        (1, ", uint32_t key)", ")", "lane.h:15: lane_serve has 7 parameters, in lib.rt:14 8"),
-        (1, "lane_level(void)", "lane_level(uint32_t level)", "lane.h:18: lane_level has 1 parameters, in lib.rt:24 0"),
-        (1, "uint32_t lane_level", "uint64_t lane_level", "lane.h:18: lane_level gives `u64`, in lib.rt:24 `u32`"),
-        (1, "uint32_t lane_level(void);", "", "lane.h has no lane_level, which lib.rt:24 has"),
-        (2, "pub fn lane_level() -> u32;", "", "words.rs has no lane_level, which lib.rt:24 has"),
-        (0, "pub extern \"C\" fn lane_level() -> u32 { 1 }", "", "lane.h:18: lane_level is not exported"),
-        // what C could not find, has no fixed layout, or is not understood
-        (
-            0,
-            "#[no_mangle]\n    pub extern \"C\" fn lane_level",
-            "pub extern \"C\" fn lane_level",
-            "lib.rt:23: lane_level is not #[no_mangle]",
-        ),
-        (
-            0,
-            "#[repr(C)]\n    pub struct LanePair",
-            "pub struct LanePair",
-            "lib.rt:21: lane_judge: `*const lane_pair` is no number and no C struct",
-        ),
-        (
-            1,
-            "uint32_t lane_level(void)",
-            "int lane_level(void)",
-            "lane.h:18: lane_level: `int` is no number and no C struct",
-        ),
-        (
-            1,
-            "uint32_t lane_level(void);",
-            "typedef uint32_t lane_word;",
-            "lane.h:18: not understood: typedef uint32_t lane_word",
-        ),
-    ];
-    for (text, old, new, fault) in planted {
+    for &(text, old, new, fault) in PLANTED {
         let found = with_edit(text, old, new);
         assert_eq!(found.first().map(String::as_str), Some(fault), "after `{old}` became `{new}`: {found:#?}");
     }
