@@ -18,6 +18,8 @@ esac
 if [ "$x86_foreign" ] || [ "${LANE_EMULATE:-0}" = 1 ]; then
     # exported for the Rust programs: compare and bench start the desk with it in front
     export LANE_EMULATOR=qemu-x86_64
+    # of a program with threads that starts another, qemu's copy can wait for ever on a lock of glib's own allocator
+    export G_SLICE=always-malloc
     x86_run=("$LANE_EMULATOR")
     x86_release=target/x86_64-unknown-linux-gnu/release
     # for this cargo alone: clippy and fmt are the machine's own

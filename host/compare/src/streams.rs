@@ -282,7 +282,7 @@ pub struct Damaged {
 pub fn damaged(a: &dyn Store, b: &dyn Store, seed: u64, streams: usize) -> Result<Damaged, Difference> {
     let mut rng = Rng::new(seed);
     let mut done = Damaged { cases: 0, starts: 0 };
-    let mut progress = Progress::new("damaged streams", 0);
+    let mut progress = Progress::new("damaged streams", streams as u64 * (81 + 80 * 10));
     let through_the_desk = |input: &[u8]| match a.desk(input) == b.desk(input) {
         true => Ok(()),
         false => Err(bytes_difference(a, b, input, "damaged")),

@@ -8,7 +8,7 @@ use lane::ANSWER_BYTES;
 use std::fs::{self, File};
 use std::io::{ErrorKind, Read, Write};
 use std::path::{Path, PathBuf};
-use std::process::{Child, ExitStatus, Stdio};
+use std::process::{Child, ChildStdin, ExitStatus, Stdio};
 use std::time::{Duration, Instant};
 
 #[test]
@@ -94,23 +94,8 @@ fn ended(mut desk: Child) -> ExitStatus {
     }
 }
 
-/// A write that fails stops the desk: it waits for no more input, and reads none that is there. (/dev/full refuses every
-/// byte. A closed pipe would end the desk by a signal, whatever it does.)
-#[test]
-fn a_desk_that_cannot_write_stops() {
-    let to_full = || {
-        let full = File::options().write(true).open("/dev/full").expect("/dev/full");
-        start(program::desk().stdin(Stdio::piped()).stdout(full))
-    };
-    // the input stays open, and nothing comes
-    let mut desk = to_full();
-    let mut to = desk.stdin.take().expect("piped");
-    to.write_all(&START).expect("the desk reads");
-    assert!(ended(desk).success());
-    assert_eq!(to.write_all(&START).unwrap_err().kind(), ErrorKind::BrokenPipe);
-    // more comes for as long as the desk reads
-    let mut desk = to_full();
-    let mut to = desk.stdin.take().expect("piped");
+/// Sends calls for as long as the desk takes them; it must stop.
+fn sends_until_refused(to: &mut ChildStdin) {
     let begun = Instant::now();
     let refused = loop {
         if let Err(refused) = to.write_all(&START) {
@@ -119,6 +104,26 @@ fn a_desk_that_cannot_write_stops() {
         assert!(begun.elapsed() < Duration::from_secs(60), "the desk reads on");
     };
     assert_eq!(refused.kind(), ErrorKind::BrokenPipe);
+}
+
+/// A write that fails stops the desk: it waits for no more input, and reads none that is there. (/dev/full refuses every
+/// byte. A closed pipe would end the desk by a signal, whatever it does.)
+#[test]
+fn a_desk_that_cannot_write_stops() {
+    let to_full = || {
+        let full = File::options().write(true).open("/dev/full").expect("/dev/full");
+        let mut desk = start(program::desk().stdin(Stdio::piped()).stdout(full));
+        let to = desk.stdin.take().expect("piped");
+        (desk, to)
+    };
+    // the input stays open, and nothing comes
+    let (desk, mut to) = to_full();
+    to.write_all(&START).expect("the desk reads");
+    assert!(ended(desk).success());
+    sends_until_refused(&mut to);
+    // more comes all the time
+    let (desk, mut to) = to_full();
+    sends_until_refused(&mut to);
     assert!(ended(desk).success());
 }
 
