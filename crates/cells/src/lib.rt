@@ -1,4 +1,7 @@
 // The cells of a lane board: four lent words to a cell. Which word is which is known here alone; that there are four, also to whoever lends them.
+
+#![tactic(auto)]
+
 ghost use Rattle.std.specs.Prelude.{◌≡◌, map, ◌+◌, ◌<◌, length, get_or, set};
 ghost use Rattle.cells.specs.Cells.{no_cell, cells_of, with_cells, count_of, whole_cells};
 ghost use Rattle.cells.specs.Cells.{empty, of_key, committed, own, foreign, seen_by};
@@ -7,7 +10,7 @@ ghost use Rattle.cells.specs.Rules.{foreign_of, clashes, valued, stamped, wiped,
 ghost use Rattle.cells.specs.Search.{part_of, part_is, four_have, NextAt, lowest_of, newest_of, no_look, look_turn};
 ghost use Rattle.cells.specs.Tables.{raised, tops_of, any_cell, up_to, outdated_by, surpassed_in, held_in};
 
-#[derive(Drop)]
+#[derive(Clone, Copy)]
 pub struct Cell {
     pub word: u32,
     pub value: u32,
@@ -16,14 +19,14 @@ pub struct Cell {
 }
 
 // Where a scan found what it looked for: a cell's number, or nowhere.
-#[derive(Drop)]
+#[derive(Clone, Copy)]
 pub enum Found {
     At(usize),
     Nothing,
 }
 
 // What a read and an update ask of a key's cells.
-#[derive(Drop)]
+#[derive(Clone, Copy)]
 pub struct Looked {
     pub own: Found,
     pub foreign: bool,
@@ -389,7 +392,7 @@ pub fn look(cells: &[u32], key: u32, number: u32, view: u32) -> Looked
 pub const TOPS: usize = 257;
 
 // For each first word below TOPS the greatest commit number of its cells, of all of them and of those that a view sees
-#[derive(Drop)]
+#[derive(Clone, Copy)]
 pub struct Tops {
     pub all: [u32; TOPS],
     pub seen: [u32; TOPS],

@@ -1,4 +1,7 @@
 // The lane board for C and Rust: a record crosses as words.
+
+#![tactic(auto)]
+
 ghost use Rattle.std.specs.Prelude.{◌≡◌, ◌<◌, length};
 ghost use Rattle.records.specs.Answers.{number_of, value_of};
 ghost use Rattle.lane_c.specs.Call.{call_named, upper, lower, crossed, step_on_words, lane_call};
@@ -13,7 +16,7 @@ use steps::{Board, Place, State};
 
 // How far `lane_serve` got: bytes of calls taken, bytes of answers written, and why it stopped.
 #[repr(C)]
-#[derive(Drop)]
+#[derive(Clone, Copy)]
 pub struct LaneServed {
     pub taken: u64,
     pub written: u64,

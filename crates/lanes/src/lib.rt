@@ -1,4 +1,7 @@
 // Lane calls: one call, a run of call records into answer records, and one turn of the desk.
+
+#![tactic(auto)]
+
 ghost use Rattle.std.specs.Prelude.{◌≡◌, ◌+◌, ◌*◌, ◌-◌, ◌/◌, ◌≤◌, min, true, cond, ◌&&◌, leb, length, take, drop};
 ghost use Rattle.records.specs.Answers.{place_of};
 ghost use Rattle.records.specs.Format.{answer_bytes, call_bytes, goes_in, answer_record, call_at, put_at};
@@ -12,7 +15,7 @@ use records::{ANSWER_BYTES, Answer, CALL_BYTES, Call, CallRead, Reply};
 use steps::{Answered, Board};
 
 // Why serving stopped: fewer bytes than a call record are left, bytes that are no call, or no room for one more answer.
-#[derive(Drop)]
+#[derive(Clone, Copy)]
 pub enum Stop {
     End,
     Record,
@@ -20,7 +23,7 @@ pub enum Stop {
 }
 
 // How far serving got: the new record, how many bytes of calls were taken and of answers written, and why it stopped.
-#[derive(Drop)]
+#[derive(Clone, Copy)]
 pub struct Served {
     pub board: Board,
     pub taken: usize,
@@ -29,7 +32,7 @@ pub struct Served {
 }
 
 // The record after one call record, and whether that was a call.
-#[derive(Drop)]
+#[derive(Clone, Copy)]
 struct Next {
     board: Board,
     good: bool,
@@ -167,14 +170,14 @@ fn last_stop(whole: usize, records: usize) -> Stop
 }
 
 // The desk between two turns: the record, and how many bytes at the front of its input are a cut record.
-#[derive(Drop)]
+#[derive(Clone, Copy)]
 pub struct Desk {
     pub board: Board,
     pub left: usize,
 }
 
 // What a turn came to: the desk after it, how many bytes of answers there are to send, and whether there is more to do.
-#[derive(Drop)]
+#[derive(Clone, Copy)]
 pub struct Turned {
     pub desk: Desk,
     pub written: usize,
