@@ -4,7 +4,7 @@
 --     to_over        the same for a loop that changes each cell in turn, where cells with another number stay as they are
 -- Assumes nothing.
 use mathlib.Core.Path.{◌≡◌, refl, sym, ap, ◌∙◌}
-use mathlib.Core.Bool.{Bool, true, false, not, ◌&&◌, ◌||◌, and_false}
+use mathlib.Core.Bool.{Bool, true, false, not, ◌&&◌, ◌||◌, and-false}
 use mathlib.Core.List.{List, [], ◌∷◌}
 use Prim.Native.Nat.{ℕ, zero, suc, ◌+◌, ◌-◌, ◌≤◌, ◌<◌}
 use native.Mathlib.Omega.{arith}
@@ -98,7 +98,7 @@ between_other c view d e = ap (λ (t : Bool). t && committed d && ltb c.commit d
 pub other_not_own : (number : ℕ) (c : Cell) → part_is true number c ≡ false → own number c ≡ false
 other_not_own number c e =
     let held = not (empty c) && eqb c.commit 0 in
-    ap (λ (t : Bool). held && t) e ∙ and_false held
+    ap (λ (t : Bool). held && t) e ∙ and-false held
 
 module _ (f : Cell → Cell) (number : ℕ) (stays : (c : Cell) → part_is true number c ≡ false → f c ≡ c) (ws : List ℕ) where
   -- from cell i on to the next one with the number nothing is to be changed

@@ -1,7 +1,7 @@
 -- The tables of newest numbers: what a turn of their pass does, and that they keep their promise, `tables_tell`.
 -- Assumes nothing.
 use mathlib.Core.Path.{◌≡◌, refl, sym, ap, ◌∙◌}
-use mathlib.Core.Bool.{Bool, true, false, cond, not, ◌&&◌, ◌||◌, and_false, and_comm, or-false, or_assoc}
+use mathlib.Core.Bool.{Bool, true, false, cond, not, ◌&&◌, ◌||◌, and-false, and_comm, or-false, or_assoc}
 use mathlib.Core.List.{List, [], ◌∷◌}
 use Prim.Native.Nat.{ℕ, ◌+◌, ◌/◌, ◌≤◌, ◌<◌}
 use native.Mathlib.Omega.{arith}
@@ -36,7 +36,7 @@ module _ (t : List ℕ) (w n : ℕ) where
   raise_none : n ≡ 0 → t ≡ raised t w n
   raise_none e =
       let below : ltb (get_or t w 0) n ≡ false = le-ltb (get_or t w 0) n (omega arith) in
-      sym ((λ i. chosen (ltb w all_tops && below i)) ∙ ap chosen (and_false (ltb w all_tops)))
+      sym ((λ i. chosen (ltb w all_tops && below i)) ∙ ap chosen (and-false (ltb w all_tops)))
 
   length_raised : length (raised t w n) ≡ length t
   length_raised = same (ltb w all_tops && ltb (get_or t w 0) n)
@@ -159,7 +159,7 @@ has_same p q e (d ∷ cs) = λ i. e d i || has_same p q e cs i
 module _ (c d : Cell) (e : empty c ≡ false) where
   by_word : (a b : Bool) → eqb d.word c.word ≡ a → ltb c.commit d.commit ≡ b → (a && b) ≡ (a && committed d && b)
   by_word false b p q = refl
-  by_word true false p q = sym (and_false (committed d))
+  by_word true false p q = sym (and-false (committed d))
   by_word true true p q =
       let same = eqb-true d.word c.word p in
       let filled : empty d ≡ false = ne_eqb d.word 0 (λ z. eqb-false c.word 0 e (sym same ∙ z)) in

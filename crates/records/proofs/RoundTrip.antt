@@ -7,7 +7,7 @@
 --     example-..         document 01's whole example, byte for byte
 -- Assumes nothing.
 use mathlib.Core.Path.{◌≡◌, refl, sym, ap, ◌∙◌, subst}
-use mathlib.Core.Bool.{Bool, true, false, cond, ◌&&◌, and_false}
+use mathlib.Core.Bool.{Bool, true, false, cond, ◌&&◌, and-false}
 use mathlib.Core.List.{List, [], ◌∷◌, ◌++◌}
 use mathlib.Core.Logic.{◌⊎◌, inl, inr, ⊎_elim, ◌↔◌}
 use Prim.Native.Nat.{ℕ, ◌+◌, ◌%◌, ◌^◌, ◌≤◌, ◌<◌}
@@ -133,7 +133,7 @@ module _ (has : Bool) (bs : List ℕ) (at : ℕ) (rec : List ℕ) where
 
   refused : (has ≡ false) ⊎ (length bs < at + length rec) → written has bs at rec ≡ wrote Answer.Record bs
   refused (inl h) = rw h
-  refused (inr h) = rw (lt-leb (at + length rec) (length bs) h, and_false)
+  refused (inr h) = rw (lt-leb (at + length rec) (length bs) h, and-false)
 
   others : (i : ℕ) → (i < at) ⊎ (at + length rec ≤ i) → get_or (written has bs at rec).bytes i 0 ≡ get_or bs i 0
   others i h =

@@ -5,7 +5,7 @@
 --     held_if                           without a foreign cell no prepared writer holds a key back
 -- Assumes nothing.
 use mathlib.Core.Path.{◌≡◌, refl, sym, ap, ◌∙◌}
-use mathlib.Core.Bool.{Bool, true, false, not, ◌&&◌, ◌||◌, true≢false, false≢true, and_false, or-true}
+use mathlib.Core.Bool.{Bool, true, false, not, ◌&&◌, ◌||◌, true≢false, false≢true, and-false, or-true}
 use mathlib.Core.List.{List, [], ◌∷◌}
 use Prim.Native.Nat.{ℕ, zero, suc, ◌≤◌, ◌<◌}
 use native.Mathlib.Nat.{le_of_suc-le-suc, not-suc-le-zero}
@@ -97,7 +97,7 @@ module _ (ps : List Place) (r : ℕ) (oldest : OldestAt ps r) (long : length ps 
       let W = (get_or ps k idle_place).view in
       let seen = has_more (between c (get_or ps r idle_place).view) (between c W)
       (between_later c (get_or ps r idle_place).view W (oldest.least k (omega arith) o)) cs e in
-      ap (λ (b : Bool). leb c.commit W && not b) seen ∙ and_false (leb c.commit W)
+      ap (λ (b : Bool). leb c.commit W && not b) seen ∙ and-false (leb c.commit W)
 
   pub none_keep : has_cell (between c (get_or ps r idle_place).view) cs ≡ true → has_place (keeps_at cs c) ps ≡ false
   none_keep e = no_place (keeps_at cs c) ps (λ k l. past_view e k l (is_open (get_or ps k idle_place).state) refl)

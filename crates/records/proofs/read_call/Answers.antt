@@ -1,0 +1,32 @@
+use mathlib.Core.Path.{sym, ap, ◌∙◌}
+use mathlib.Core.List.{List}
+use Prim.Native.Nat.{ℕ, ◌+◌, ◌≤◌}
+use native.Mathlib.Omega.{arith}
+use borrow.Author.Tests.{leb-true, leb-false}
+use lib.ListN.{length, take, length-drop}
+use Rattle.records.specs.Format.{call_in, call_at}
+use Rattle.records.proofs.Bytes.{part_rest}
+use Rattle.records.proofs.RoundTrip.{calls}
+use Rattle.records.proofs.read_call.Goals as goal
+
+fits : (c : goal.Then-room) → c.args.at + 10 ≤ length c.args.bytes.now
+fits c = leb-true _ _ (sym c.room.ensures ∙ c.if-room.true)
+
+pub slice_bounds-call_in-count : goal.slice_bounds-call_in-count
+slice_bounds-call_in-count c = omega (arith, fits c)
+
+-- TODO no goal today: slice-bounds-call-in-start
+-- part-call-in-start : tie.Need-slice-bounds-call-in-start
+-- part-call-in-start c = omega (arith, fits c)
+
+pub call_in-requires : goal.call_in-requires
+call_in-requires c = simp (part_rest, length-drop) (omega (arith, fits c.before))
+
+pub returns-then-room : goal.returns-then-room
+unfolding call_at
+returns-then-room c =
+    let a = c.args in
+    c.call_in.ensures ∙ ap (λ (l : List ℕ). call_in (take 10 l)) (part_rest a.bytes.now a.at)
+
+pub returns-else-room : goal.returns-else-room
+returns-else-room c = sym (calls.short _ _ (leb-false _ _ (sym c.room.ensures ∙ c.if-room.false)))
