@@ -4,11 +4,11 @@ use Rattle.records.proofs.Fields.{above, no_answer}
 use Rattle.records.proofs.answer_of.Goals as goal
 
 pub returns-in-0 : goal.returns-in-0
-returns-in-0 c = rw c.in-0.keys1
+returns-in-0 c = rw c.in-0.is
 
 pub returns-in_default : goal.returns-in_default
 returns-in_default c =
-    let late = c.in_default.rest in
+    let late = c.in_default.in_default-own.rest in
     let early = late.0.0.0.0.0.0 in
     let six = above (above (above (above (above (above zero-le
     early.0.0.0.0.0.1) early.0.0.0.0.1) early.0.0.0.1) early.0.0.1) early.0.1) early.1 in

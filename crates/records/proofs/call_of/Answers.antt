@@ -3,21 +3,21 @@ use Rattle.records.proofs.Fields.{no_kind}
 use Rattle.records.proofs.call_of.Goals as goal
 
 pub returns-in-1 : goal.returns-in-1
-returns-in-1 c = rw c.in-1.keys1
+returns-in-1 c = rw c.in-1.is
 
 pub returns-in-2 : goal.returns-in-2
-returns-in-2 c = rw c.in-2.keys2
+returns-in-2 c = rw c.in-2.is
 
 pub returns-in-3 : goal.returns-in-3
-returns-in-3 c = rw c.in-3.keys3
+returns-in-3 c = rw c.in-3.is
 
 pub returns-in-4 : goal.returns-in-4
-returns-in-4 c = rw c.in-4.keys4
+returns-in-4 c = rw c.in-4.is
 
 pub returns-in-5 : goal.returns-in-5
-returns-in-5 c = rw c.in-5.keys5
+returns-in-5 c = rw c.in-5.is
 
 pub returns-in_default : goal.returns-in_default
 returns-in_default c =
-    let r = c.in_default.rest in
+    let r = c.in_default.in_default-own.rest in
     sym (no_kind _ _ _ _ r.0.0.0.0.1 r.0.0.0.1 r.0.0.1 r.0.1 r.1)

@@ -9,10 +9,9 @@ use Rattle.records.proofs.put_answer.Goals as goal
 pub returns : goal.returns
 unfolding answer_record
 returns c =
-    let start = c.before in
     let number = c.number in
     let value = c.value in
-    let head : List ℕ = 0x41 ∷ (0x4E ∷ (number.result ∷ bytes_of 1 start.args.reply.place)) in
-    lent_next start.args.s.now head (bytes_of 4 value.result) 4 refl (omega (arith, start.requires))
+    let head : List ℕ = 0x41 ∷ (0x4E ∷ (number.result ∷ bytes_of 1 c.args.reply.place)) in
+    lent_next c.args.s.now head (bytes_of 4 value.result) 4 refl (omega (arith, c.requires))
     c.put_head.ensures c.put_four.ensures
     ∙ cc (number.ensures, value.ensures)

@@ -13,9 +13,6 @@ bounds-s-2 c = simp length-set (omega arith)
 
 pub returns : goal.returns
 returns c =
-    let second = c.before in
-    let first = second.before in
-    let start = first.before.before in
-    put_stores (first.low.result ∷ (second.low2.result ∷ (c.low-3.result ∷ (c.low-4.result ∷ []))))
-    start.args.s.now start.requires
-    ∙ cc (first.low.ensures, second.low2.ensures, c.low-3.ensures, c.low-4.ensures)
+    put_stores (c.low.result ∷ (c.low-2.result ∷ (c.low-3.result ∷ (c.low-4.result ∷ []))))
+    c.args.s.now c.requires
+    ∙ cc (c.low.ensures, c.low-2.ensures, c.low-3.ensures, c.low-4.ensures)

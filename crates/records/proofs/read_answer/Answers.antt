@@ -15,12 +15,13 @@ fits c = leb-true _ _ (sym c.room.ensures ∙ c.if-room.true)
 pub slice_bounds-answer_in-count : goal.slice_bounds-answer_in-count
 slice_bounds-answer_in-count c = omega (arith, fits c)
 
--- TODO no goal today: slice-bounds-answer-in-start
--- part-answer-in-start : tie.Need-slice-bounds-answer-in-start
--- part-answer-in-start c = omega (arith, fits c)
+pub slice_bounds-answer_in-start : goal.slice_bounds-answer_in-start
+slice_bounds-answer_in-start c = omega (arith, fits c)
 
 pub answer_in-requires : goal.answer_in-requires
-answer_in-requires c = simp (part_rest, length-drop) (omega (arith, fits c.before))
+answer_in-requires c =
+    let room = leb-true _ _ (sym c.room.ensures ∙ c.if-room.true) in
+    simp (part_rest, length-drop) (omega (arith, room))
 
 pub returns-then-room : goal.returns-then-room
 unfolding answer_at

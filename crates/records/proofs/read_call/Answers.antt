@@ -15,12 +15,13 @@ fits c = leb-true _ _ (sym c.room.ensures ∙ c.if-room.true)
 pub slice_bounds-call_in-count : goal.slice_bounds-call_in-count
 slice_bounds-call_in-count c = omega (arith, fits c)
 
--- TODO no goal today: slice-bounds-call-in-start
--- part-call-in-start : tie.Need-slice-bounds-call-in-start
--- part-call-in-start c = omega (arith, fits c)
+pub slice_bounds-call_in-start : goal.slice_bounds-call_in-start
+slice_bounds-call_in-start c = omega (arith, fits c)
 
 pub call_in-requires : goal.call_in-requires
-call_in-requires c = simp (part_rest, length-drop) (omega (arith, fits c.before))
+call_in-requires c =
+    let room = leb-true _ _ (sym c.room.ensures ∙ c.if-room.true) in
+    simp (part_rest, length-drop) (omega (arith, room))
 
 pub returns-then-room : goal.returns-then-room
 unfolding call_at

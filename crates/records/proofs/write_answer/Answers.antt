@@ -4,51 +4,52 @@ use mathlib.Core.List.{List}
 use Prim.Native.Nat.{ℕ, ◌+◌, ◌≤◌}
 use native.Mathlib.Omega.{arith}
 use borrow.Author.Tests.{leb-true}
+use lib.Dec.{leb}
 use lib.ListN.{length, length-drop}
 use Rattle.records.specs.declared.Answer.{Answer}
 use Rattle.records.specs.Format.{reply_fits, answer_record, put_at, wrote, written_answer}
 use Rattle.records.proofs.Bytes.{part_rest, put_part, and_right}
 use Rattle.records.proofs.Fields.{answer_length, as_written}
+use Rattle.records.specs.declared.Reply.{Reply}
 use Rattle.records.proofs.write_answer.Goals as goal
 
--- where the function began, from its branch
-abbrev entry : tie.After-room → tie.Start
-entry c = c.before.before.before.before
-
-room : (c : goal.Then-fits-room) → (entry c.before).args.at + 8 ≤ length (entry c.before).args.bytes.now
-room c =
-    leb-true _ _ (sym c.room.ensures
-    ∙ and_right c.goes_in-fits.result c.room.result c.if-fits-room.true)
-
-pub slice_bounds-put_answer-count : goal.slice_bounds-put_answer-count
-slice_bounds-put_answer-count c = omega (arith, room c)
-
--- TODO no goal today: slice-bounds-put-answer-start
--- part-put-answer-start : tie.Need-slice-bounds-put-answer-start
--- part-put-answer-start c = omega (arith, room c)
-
-pub put_answer-requires : goal.put_answer-requires
-put_answer-requires c = simp (part_rest, length-drop) (omega (arith, room c.before))
+-- there is room where both tests pass
+room : (fits has : Bool) (at len : ℕ) → has ≡ leb (at + 8) len → (fits && has) ≡ true → at + 8 ≤ len
+room fits has at len told passed = leb-true _ _ (sym told ∙ and_right fits has passed)
 
 -- what writing gives, by the outcome of the two tests
-gives : (c : goal.After-room) (t : Bool) → (c.goes_in-fits.result && c.room.result) ≡ t →
-    cond t
-    (wrote (Answer.Ok 0) (put_at (entry c).args.bytes.now (entry c).args.at (answer_record (entry c).args.reply)))
-    (wrote Answer.Record (entry c).args.bytes.now)
-    ≡ written_answer (entry c).args.bytes.now (entry c).args.at (entry c).args.reply
+gives : (bs : List ℕ) (at : ℕ) (reply : Reply) (fits has t : Bool) → fits ≡ reply_fits reply → has ≡ leb (at + 8) (length bs)
+    → (fits && has) ≡ t
+    → cond t (wrote (Answer.Ok 0) (put_at bs at (answer_record reply))) (wrote Answer.Record bs) ≡ written_answer bs at reply
 unfolding written_answer
-gives c t told =
-    let a = (entry c).args in
-    let fits : c.goes_in-fits.result ≡ reply_fits a.reply = cc (c.goes_in-fits.ensures, c.value.ensures) in
-    as_written a.bytes.now a.at (answer_record a.reply) (answer_length a.reply) fits c.room.ensures told
+gives bs at reply fits has t goes told tested = as_written bs at (answer_record reply) (answer_length reply) goes told tested
+
+pub slice_bounds-put_answer-count : goal.slice_bounds-put_answer-count
+slice_bounds-put_answer-count c =
+    let fit = room c.goes_in-fits.result c.room.result c.args.at (length c.args.bytes.now) c.room.ensures c.if-fits-room.true in
+    omega (arith, fit)
+
+pub slice_bounds-put_answer-start : goal.slice_bounds-put_answer-start
+slice_bounds-put_answer-start c =
+    let fit = room c.goes_in-fits.result c.room.result c.args.at (length c.args.bytes.now) c.room.ensures c.if-fits-room.true in
+    omega (arith, fit)
+
+pub put_answer-requires : goal.put_answer-requires
+put_answer-requires c =
+    let fit = room c.goes_in-fits.result c.room.result c.args.at (length c.args.bytes.now) c.room.ensures c.if-fits-room.true in
+    simp (part_rest, length-drop) (omega (arith, fit))
 
 pub returns-then-fits-room : goal.returns-then-fits-room
 returns-then-fits-room c =
-    let a = (entry tested).args in
+    let a = c.args in
     let put = c.put_answer in
+    let goes : c.goes_in-fits.result ≡ reply_fits a.reply = cc (c.goes_in-fits.ensures, c.value.ensures) in
     ap (λ (l : List ℕ). wrote (Answer.Ok 0) l)
     (put_part a.bytes.now a.at (answer_record a.reply) put.new.s put.ensures)
-    ∙ gives tested true c.if-fits-room.true
+    ∙ gives a.bytes.now a.at a.reply _ _ true goes c.room.ensures c.if-fits-room.true
 
 pub returns-else-fits-room : goal.returns-else-fits-room
-returns-else-fits-room c = gives c.before false c.if-fits-room.false
+returns-else-fits-room c =
+    let a = c.args in
+    let goes : c.goes_in-fits.result ≡ reply_fits a.reply = cc (c.goes_in-fits.ensures, c.value.ensures) in
+    gives a.bytes.now a.at a.reply _ _ false goes c.room.ensures c.if-fits-room.false
