@@ -1,0 +1,11 @@
+-- `finish` meets its contract: nothing left is nothing written, and a cut record is RECORD. Assumes nothing.
+use Rattle.lanes.proofs.Turns.{end_none, end_cut}
+use Rattle.lanes.proofs.finish.Goals as goal
+
+pub returns-then-left-eq0 : goal.returns-then-left-eq0
+returns-then-left-eq0 c = end_none c.args.left c.args.answers.now c.if-left-eq0.true
+
+pub returns : goal.returns
+returns c =
+    let s = c.args in
+    end_cut s.left s.answers.now c.no_call.new.answers c.if-left-eq0.false c.no_call.ensures
