@@ -2,7 +2,8 @@
 -- Assumes nothing.
 use mathlib.Core.Path.{◌≡◌, refl, sym, ap, ◌∙◌}
 use mathlib.Core.Logic.{inl, inr, ◌↔◌}
-use mathlib.Core.Bool.{Bool, true, false}
+use mathlib.Core.Bool.{Bool, true, false, ◌&&◌}
+use lib.Dec.{ltb}
 use mathlib.Core.List.{List, [], ◌∷◌}
 use mathlib.Core.Option.{none}
 use Prim.Native.Nat.{ℕ, suc, ◌+◌, ◌≤◌, ◌<◌}
@@ -14,7 +15,7 @@ use Rattle.records.specs.Answers.{number_of}
 use Rattle.cells.specs.declared.Cell.{Cell}
 use Rattle.cells.specs.declared.Found.{Found}
 use Rattle.cells.specs.Cells.{no_cell}
-use Rattle.cells.specs.Rules.{newest, own_at, visible, newest_seen, blocks, conflict}
+use Rattle.cells.specs.Rules.{pick_cell, newest, own_at, visible, newest_seen, blocks, conflict}
 use Rattle.cells.proofs.Meaning.{Newest, has_found, some_has, seen_means}
 use Rattle.steps.specs.declared.State.{State}
 use Rattle.steps.specs.declared.Board.{Board}
@@ -34,7 +35,8 @@ use Rattle.history.proofs.Link.{busy, wrote, Live, Linked, writer_busy, same_pla
 same_newest : (p q : Cell → Bool) (best : Cell) (cs : List Cell) → ((i : ℕ) → p (cell_at cs i) ≡ q (cell_at cs i)) → newest p best cs ≡ newest q best cs
 unfolding newest
 same_newest p q best [] e = refl
-same_newest p q best (c ∷ cs) e = rw (e 0) (same_newest p q _ cs (λ i. e (suc i)))
+same_newest p q best (c ∷ cs) e =
+    rw (e 0) (same_newest p q (pick_cell (q c && ltb best.commit c.commit) c best) cs (λ i. e (suc i)))
 
 module _ (b : Board) (cs : List Cell) (L : Ledger) (𝓛 : Linked b cs L) where
   -- WHAT A LIVE VIEW READS IS WHAT THE FIRST w COMMITTED LEAVE
