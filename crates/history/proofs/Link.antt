@@ -16,7 +16,7 @@ use Rattle.steps.specs.declared.State.{State}
 use Rattle.steps.specs.declared.Place.{Place}
 use Rattle.steps.specs.declared.Board.{Board}
 use Rattle.steps.specs.Record.{all_places, is_idle, idle_place, place_at}
-use Rattle.steps.specs.Shape.{held, has_number, distinct, counted}
+use Rattle.steps.specs.Shape.{held, has_number, distinct}
 use Rattle.history.specs.History.{Event, write, last_write, Transaction, Ledger, put}
 use Rattle.steps.proofs.Tests.{by-test, and_left, and_right}
 use Rattle.history.proofs.Basics.{clash, or_left, or_right, none_some}

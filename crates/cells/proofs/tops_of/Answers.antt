@@ -2,7 +2,6 @@ use borrow.Author.Rules.{rules}
 use borrow.Author.Tests.{le-leb, lt-leb}
 use mathlib.Core.Path.{◌≡◌, refl, sym, ap, ◌∙◌}
 use mathlib.Core.Bool.{Bool, true, false, cond}
-use Prim.Native.Nat.{◌-◌}
 use Rattle.cells.specs.Tables.{tops_of, any_cell, up_to, raised}
 use Rattle.cells.proofs.Tables.{tops_next, tops_end, uncommitted_leaves}
 use Rattle.cells.proofs.tops_of.Goals as goal

@@ -1,10 +1,10 @@
 -- `lane_c::well_formed` meets its contract. The invariant: the answer is what the places left say. Assumes nothing.
 use borrow.Author.Rules.{rules}
-use borrow.Author.Tests.{eq-eqb, ne_eqb, not-false}
+use borrow.Author.Tests.{eq-eqb, ne_eqb}
 use mathlib.Core.Path.{◌≡◌, sym, ap, ◌∙◌}
 use mathlib.Core.Bool.{Bool, ◌&&◌}
 use mathlib.Core.List.{List}
-use Prim.Native.Nat.{ℕ, ◌+◌, ◌-◌, ◌<◌}
+use Prim.Native.Nat.{ℕ, ◌+◌, ◌<◌}
 use lib.ListN.{drop}
 use Rattle.steps.specs.Record.{all_places}
 use Rattle.lane_c.specs.Words.{place_words, place_fits, words_at, each, place_blocks, well_formed}

@@ -1,10 +1,4 @@
-use mathlib.Core.Path.{◌≡◌}
-use mathlib.Core.Bool.{Bool, true, false, cond, ◌&&◌}
 use native.Mathlib.Omega.{arith}
-use lib.ListN.{take}
-use Rattle.records.specs.declared.AnswerRead.{AnswerRead}
-use Rattle.records.specs.declared.Reply.{Reply}
-use Rattle.records.specs.Format.{answer_in}
 use Rattle.records.proofs.Fields.{answer_found}
 use Rattle.records.proofs.answer_in.Goals as goal
 

@@ -1,9 +1,4 @@
-use mathlib.Core.Path.{◌≡◌}
-use mathlib.Core.Bool.{Bool, true, false, cond, ◌&&◌}
 use native.Mathlib.Omega.{arith}
-use lib.ListN.{take}
-use Rattle.records.specs.declared.CallRead.{CallRead}
-use Rattle.records.specs.Format.{call_in}
 use Rattle.records.proofs.Fields.{call_found}
 use Rattle.records.proofs.call_in.Goals as goal
 

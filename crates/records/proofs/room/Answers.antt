@@ -1,6 +1,6 @@
 use native.Mathlib.Omega.{arith}
 use mathlib.Core.Path.{sym}
-use Prim.Native.Nat.{◌+◌, ◌-◌, ◌<◌}
+use Prim.Native.Nat.{◌+◌, ◌<◌}
 use borrow.Author.Tests.{lt-leb}
 use Rattle.records.proofs.Bytes.{leb_left}
 use Rattle.records.proofs.room.Goals as goal

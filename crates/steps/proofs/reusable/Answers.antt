@@ -2,12 +2,11 @@
 -- Inner invariant: a place that keeps the cell is one of those yet to be looked at. The tables settle most cells before it.
 -- Assumes nothing.
 use mathlib.Core.Path.{◌≡◌, refl, sym, ap, ◌∙◌}
-use mathlib.Core.Bool.{Bool, true, false, not}
+use mathlib.Core.Bool.{Bool, true, false}
 use mathlib.Core.List.{List}
-use Prim.Native.Nat.{ℕ, ◌+◌, ◌-◌, ◌/◌, ◌<◌}
+use Prim.Native.Nat.{ℕ, ◌+◌, ◌/◌, ◌<◌}
 use native.Mathlib.Omega.{arith}
 use borrow.Author.Rules.{rules}
-use borrow.Author.Tests.{not-true, not-false}
 use lib.Dec.{ltb}
 use lib.ListN.{length, get_or, drop}
 use Rattle.cells.specs.declared.Found.{Found}
@@ -20,7 +19,7 @@ use Rattle.cells.proofs.Scan.{lowest-here, lowest-next, lowest_end}
 use Rattle.cells.proofs.Tables.{tables_tell}
 use Rattle.steps.specs.declared.Place.{Place}
 use Rattle.steps.specs.Record.{all_places, idle_place}
-use Rattle.steps.specs.Spent.{has_place, keeps_at, free, reusable}
+use Rattle.steps.specs.Spent.{keeps_at, free, reusable}
 use Rattle.steps.proofs.Spent.{place_turn, place_end, and_is, free_is}
 use Rattle.steps.proofs.Tests.{and_left, and_right}
 use Rattle.steps.proofs.Quick.{none_keep, some_keeps}

@@ -5,7 +5,7 @@ use mathlib.Core.Path.{◌≡◌}
 use Prim.Native.Nat.{◌-◌, ◌≤◌}
 use lib.ListN.{drop}
 use Rattle.cells.specs.Cells.{cells_of}
-use Rattle.cells.specs.Rules.{lowest_from, keeps}
+use Rattle.cells.specs.Rules.{lowest_from}
 use Rattle.steps.specs.Record.{all_places}
 use Rattle.steps.specs.Spent.{has_place, keeps_at, free, reusable}
 use Rattle.steps.proofs.reusable.Given as goal

@@ -1,11 +1,10 @@
 -- `Board::has_counted` meets its contract. The invariant: what is left to look at answers for the whole.
 -- Assumes nothing.
 use mathlib.Core.Path.{◌≡◌, refl, sym, ap, ◌∙◌}
-use Prim.Native.Nat.{◌-◌}
 use native.Mathlib.Omega.{arith}
 use lib.ListN.{length}
 use Rattle.steps.specs.Record.{all_places}
-use Rattle.steps.specs.Shape.{held, counted, each}
+use Rattle.steps.specs.Shape.{counted, each}
 use Rattle.steps.proofs.Places.{long, each_turn, held_end}
 use Rattle.steps.proofs.Board.has_counted.Goals as goal
 

@@ -1,11 +1,10 @@
 -- `Board::has_distinct` meets its contract. The invariant: what is left to look at answers for the whole.
 -- Assumes nothing.
 use mathlib.Core.Path.{◌≡◌, refl, sym, ap, ◌∙◌}
-use Prim.Native.Nat.{◌-◌}
 use native.Mathlib.Omega.{arith}
 use lib.ListN.{length}
 use Rattle.steps.specs.Record.{all_places}
-use Rattle.steps.specs.Shape.{held, distinct}
+use Rattle.steps.specs.Shape.{distinct}
 use Rattle.steps.proofs.Places.{long, distinct_turn, held_end}
 use Rattle.steps.proofs.Board.has_distinct.Goals as goal
 

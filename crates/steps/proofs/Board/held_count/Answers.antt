@@ -1,12 +1,9 @@
 -- `Board::held_count` meets its contract. The invariant: what is counted, and what is left to count, is the whole.
 -- Assumes nothing.
 use mathlib.Core.Path.{◌≡◌, sym, ap, ◌∙◌}
-use Prim.Native.Nat.{◌-◌}
 use native.Mathlib.Omega.{arith}
-use borrow.Author.Tests.{not-true, not-false}
 use lib.ListN.{length}
 use Rattle.steps.specs.Record.{all_places}
-use Rattle.steps.specs.Shape.{held}
 use Rattle.steps.proofs.Places.{long, count_turn, held_end}
 use Rattle.steps.proofs.Board.held_count.Goals as goal
 
