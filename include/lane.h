@@ -1,6 +1,6 @@
 /* The lane board for C: a store of versions under snapshot isolation, proved down to every word.
  *
- * Link the archive of the crate lane_c (target/staticlib/liblane_c.a, made by `rt staticlib lane_c`, x86-64 Linux).
+ * Link the archive of the crate lane_c_c (target/staticlib/liblane_c.a, made by `./lane build`, x86-64 Linux).
  * The rules of the board are document 01's; docs/EMBEDDING.md shows a whole program.
  *
  * A board is two runs of 32-bit words that the caller owns:

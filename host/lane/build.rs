@@ -9,8 +9,7 @@ fn main() {
     println!("cargo:rerun-if-changed=build.rs");
     println!("cargo:rerun-if-changed={}", archive.display());
     if !archive.exists() {
-        let missing =
-            "target/staticlib/liblane_c.a is missing: run `rt staticlib lane_c` in the root of the repository";
+        let missing = "target/staticlib/liblane_c.a is missing: run `./lane build` in the root of the repository";
         println!("cargo:warning={missing}");
         eprintln!("\n{missing}\n");
         std::process::exit(1);

@@ -19,4 +19,4 @@ pub fn desk() -> Command {
 }
 
 /// What to say where it does not start.
-pub const MISSING: &str = "target/bin/desk does not start: run `rt check desk` in the root of the repository";
+pub const MISSING: &str = "target/bin/desk does not start: run `./lane build` in the root of the repository";

@@ -1,4 +1,4 @@
-//! What the proved crate exports, include/lane.h and the Rust declarations must say the same: every function with its
+//! What the proved archive exports, include/lane.h and the Rust declarations must say the same: every function with its
 //! parameters and every struct with its fields, by name, type and order. The prover sees names and no order, and a linker
 //! sees neither: exchanged parameters of one type would be proved, compiled and linked.
 
@@ -87,8 +87,13 @@ fn all(folder: &str, ending: &str, read: fn(&str, &str) -> Side) -> Side {
     side
 }
 
+/// What the archive's crate exports, with the structs of the library under it, whose functions are in no archive.
 fn exported() -> Side {
-    all("crates/lane_c/src", ".rt", read::rust)
+    let mut side = all("crates/lane_c_c/src", ".rt", read::rust);
+    let Side { items, faults } = all("crates/lane_c/src", ".rt", read::rust);
+    side.items.extend(items.into_iter().filter(|item| item.result.is_none()));
+    side.faults.extend(faults);
+    side
 }
 
 fn header() -> Side {
@@ -150,17 +155,17 @@ const EXPORTED: &str = r#"
     #[repr(C)]
     pub struct LanePair { pub kind: u32, pub place: u32 }
 
-    #[no_mangle]
+    #[unsafe(no_mangle)]
     pub extern "C" fn lane_serve<'a>(words: &'a mut [u32], calls: &[u8], entries: &mut [u8], place: u32, key: u32) -> LaneServed
-        requires { ⌜ length (now words) ≡ 50 ⌝ }
-        ensures { λ r. ⌜ r ≡ served (now (words .entry)) ⌝ }
+        requires { length words.old ≡ 50 }
+        ensures { result ≡ served words.old }
     {
         inner(words)
     }
     fn inner(words: &mut [u32]) -> LaneServed { LaneServed { taken: 0, written: 0, why: 3 } }
-    #[no_mangle]
+    #[unsafe(no_mangle)]
     pub extern "C" fn lane_judge(pairs: &[LanePair]) -> u32 { 0 }
-    #[no_mangle]
+    #[unsafe(no_mangle)]
     pub extern "C" fn lane_level() -> u32 { 1 }
 "#;
 
@@ -310,9 +315,9 @@ const PLANTED: &[(usize, &str, &str, &str)] = &[
     // what C could not find, has no fixed layout, or is not understood
     (
         0,
-        "#[no_mangle]\n    pub extern \"C\" fn lane_level",
+        "#[unsafe(no_mangle)]\n    pub extern \"C\" fn lane_level",
         "pub extern \"C\" fn lane_level",
-        "lib.rt:23: lane_level is not #[no_mangle]",
+        "lib.rt:23: lane_level is not #[unsafe(no_mangle)]",
     ),
     (
         0,

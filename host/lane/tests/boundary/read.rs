@@ -1,4 +1,4 @@
-//! Reads the C interface as three texts tell it: what the proved crate exports, what the C header declares, and what the Rust
+//! Reads the C interface as three texts tell it: what the proved archive exports, what the C header declares, and what the Rust
 //! crate declares. Each gives functions with their parameters and structs with their fields, in their order.
 
 /// A function or a struct.
@@ -188,8 +188,8 @@ pub fn rust(file: &str, text: &str) -> Side {
         } else if reader.takes("extern") && reader.takes("\"C\"") {
             if reader.takes("fn") {
                 let function = rust_function(&mut reader);
-                if !marks.contains(&"no_mangle".into()) {
-                    side.faults.push(format!("{}: {} is not #[no_mangle]", function.place, function.name));
+                if !marks.contains(&"unsafe(no_mangle)".into()) {
+                    side.faults.push(format!("{}: {} is not #[unsafe(no_mangle)]", function.place, function.name));
                 }
                 side.items.push(function);
             } else if reader.takes("{") {
