@@ -44,8 +44,7 @@ def defined(path):
             continue
         if goals and re.search(r":\s*(?:\(.*\)\s*→\s*)?(?:tie|goal)\.", line):
             continue
-        if len(head[1]) <= 2:
-            yield head[2]
+        yield head[2]
 
 
 def snake(name):
@@ -61,15 +60,27 @@ def sources(root):
 
 # Lemmas whose name would fall together with that of a definition, and so end in _lem.
 LEMMAS = (
-    "answer-of commit-before foreign-of fresh-words in-pieces in-shape is-check look-turn lowest-from newest-seen no-conflict past-cells pick-found "
+    "answer-of at-end commit-before foreign-of fresh-words in-pieces in-shape is-check look-turn lowest-from newest-seen no-conflict past-cells pick-found "
     "place-fits place-words put-at record-words serve-on state-word with-cells"
 ).split()
-# What port.py respelled already, and a definition falls together with now: (the part of the tree, the name there, its name now).
+# What port.py respelled already, and a definition falls together with now: (that definition's old name, the part of the tree, the name there, its name now).
 AGAIN = [
-    ("crates/history/", "last_on", "last_on_lem"),
-    ("crates/lane_c/", "place_at", "place_at_lem"),
-    ("crates/steps/proofs/Keeps.antt", "put_at", "put_at"),
+    ("lastOn", "crates/history/", "last_on", "last_on_lem"),
+    ("placeAt", "crates/lane_c/", "place_at", "place_at_lem"),
 ]
+
+
+# English words in comments that are spelled as a name of ours was.
+ENGLISH = {"rolled-back", "well-formed"}
+
+
+def of_the_library(text):
+    """The names that a file imports from a library that is not ours: these keep their spelling there."""
+    names = set()
+    for path, some in re.findall(r"(?m)^(?:ghost )?use ([^\s{]+)\.\{(.*)\};?\s*$", text):
+        if not path.startswith("Rattle.") or path.startswith("Rattle.std."):
+            names |= {name.strip() for name in some.split(",")}
+    return names
 
 
 def turns(root):
@@ -93,6 +104,8 @@ def turn_loosely(text, named, names):
     """Of a comment, a clause or an edit: also what port.py respelled in the code alone."""
 
     def one(m):
+        if m[0] in ENGLISH:
+            return m[0]
         if m[0] in named:
             return named[m[0]]
         to = snake(m[0])
@@ -102,6 +115,8 @@ def turn_loosely(text, named, names):
 
 
 def turn_antt(text, named, names):
+    theirs = of_the_library(text)
+    named = {name: to for name, to in named.items() if name not in theirs}
     lines = []
     for line in text.split("\n"):
         at = re.search(r"(?:^|(?<=\s))--(?=\s|$)", line)
@@ -116,9 +131,9 @@ def turn_rt(text, named, names):
     return turn(text, camel)
 
 
-def again(path, root, text):
-    for part, name, to in AGAIN:
-        if os.path.relpath(path, root).startswith(part):
+def again(path, root, text, named):
+    for old, part, name, to in AGAIN:
+        if old in named and os.path.relpath(path, root).startswith(part):
             text = turn(text, {name: to})
     return text
 
@@ -134,7 +149,7 @@ def main():
     for path in sources(root):
         old = read(path)
         if path.endswith(".antt"):
-            new = turn_antt(again(path, root, old), named, names)
+            new = turn_antt(again(path, root, old, named), named, names)
         elif path.endswith(".rt"):
             new = turn_rt(old, named, names)
         else:

@@ -1,5 +1,5 @@
 -- What the scans mean, in facts of each cell's number, so that no recursion need be trusted:
---     lowest_means, has_means, newest-means     what is computed meets the facts
+--     lowest_means, has_means, newest_means     what is computed meets the facts
 --     lowest_only, has_only, newest_only        nothing else does
 --     lowest_found, lowest_none                 the facts of a search by what it found
 --     has_found, has_none                       the facts of "has a cell" by its answer
@@ -263,12 +263,12 @@ module _ (p : Cell → Bool) where
     fails c true e low = absurd (omega (arith, low e, numbered c e))
     fails c false e low = e
 
-    is-over : (cs : List Cell) (r : Cell) → Over no_cell cs r → NewestIs cs r
-    is-over cs r (inl m) = inl (m.same, λ k h. fails (get_or cs k no_cell) (p (get_or cs k no_cell)) refl (m.low k h))
-    is-over cs r (inr m) = inr m.newest
+    is_over : (cs : List Cell) (r : Cell) → Over no_cell cs r → NewestIs cs r
+    is_over cs r (inl m) = inl (m.same, λ k h. fails (get_or cs k no_cell) (p (get_or cs k no_cell)) refl (m.low k h))
+    is_over cs r (inr m) = inr m.newest
 
-    pub newest-means : (cs : List Cell) → NewestIs cs (newest p no_cell cs)
-    newest-means cs = is-over cs (newest p no_cell cs) (over no_cell cs)
+    pub newest_means : (cs : List Cell) → NewestIs cs (newest p no_cell cs)
+    newest_means cs = is_over cs (newest p no_cell cs) (over no_cell cs)
 
   no_newest : (cs : List Cell) (r : Cell) → None cs → Newest cs r → ⊥
   no_newest cs r none m = clash (sym (ap p m.this) ∙ m.passes) (none m.at m.inside)
@@ -292,7 +292,7 @@ module _ (p : Cell → Bool) where
 
   pub newest_only : ((c : Cell) → p c ≡ true → 0 < c.commit) → (cs : List Cell) (r : Cell) → NewestIs cs r
       → r ≡ newest p no_cell cs
-  newest_only numbered cs r a = newest_same cs r (newest p no_cell cs) a (newest-means numbered cs)
+  newest_only numbered cs r a = newest_same cs r (newest p no_cell cs) a (newest_means numbered cs)
 
 -- the two scans by name
 module _ (key view : ℕ) where
@@ -304,7 +304,7 @@ module _ (key view : ℕ) where
 
   pub seen_means : (cs : List Cell) → NewestIs (visible key view) cs (newest_seen key view cs)
   unfolding newest_seen
-  seen_means cs = newest-means (visible key view) visible_numbered cs
+  seen_means cs = newest_means (visible key view) visible_numbered cs
 
   pub seen_only : (cs : List Cell) (r : Cell) → NewestIs (visible key view) cs r → r ≡ newest_seen key view cs
   unfolding newest_seen

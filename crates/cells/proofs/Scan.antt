@@ -24,32 +24,32 @@ module _ (ws : List ℕ) (i : ℕ) (h : i < length ws / 4) where
   cells_next = drop_next (cells_of ws) i no_cell in_cells
 
   module _ (p : Cell → Bool) where
-    pub lowest-here : p (get_or (cells_of ws) i no_cell) ≡ true → lowest_from i p (drop i (cells_of ws)) ≡ At i
+    pub lowest_here : p (get_or (cells_of ws) i no_cell) ≡ true → lowest_from i p (drop i (cells_of ws)) ≡ At i
     unfolding lowest_from
-    lowest-here e = rw (cells_next, e)
+    lowest_here e = rw (cells_next, e)
 
-    pub lowest-next : p (get_or (cells_of ws) i no_cell) ≡ false
+    pub lowest_next : p (get_or (cells_of ws) i no_cell) ≡ false
         → lowest_from i p (drop i (cells_of ws)) ≡ lowest_from (i + 1) p (drop (i + 1) (cells_of ws))
     unfolding lowest_from
-    lowest-next e = rw (cells_next, e)
+    lowest_next e = rw (cells_next, e)
 
     pub has_here : p (get_or (cells_of ws) i no_cell) ≡ true → has_cell p (drop i (cells_of ws)) ≡ true
     unfolding has_cell
     has_here e = rw (cells_next, e)
 
-    pub has-next : p (get_or (cells_of ws) i no_cell) ≡ false
+    pub has_next : p (get_or (cells_of ws) i no_cell) ≡ false
         → has_cell p (drop i (cells_of ws)) ≡ has_cell p (drop (i + 1) (cells_of ws))
     unfolding has_cell
-    has-next e = rw (cells_next, e)
+    has_next e = rw (cells_next, e)
 
   -- a turn that changes cell i
   module _ (f : Cell → Cell) where
-    abbrev now-words : List ℕ
-    now-words = with_cells ws (map_to i f (cells_of ws))
+    abbrev now_words : List ℕ
+    now_words = with_cells ws (map_to i f (cells_of ws))
 
-    pub to-next : with_cells now-words (set (cells_of now-words) i (f (get_or (cells_of ws) i no_cell)))
+    pub to_next : with_cells now_words (set (cells_of now_words) i (f (get_or (cells_of ws) i no_cell)))
         ≡ with_cells ws (map_to (i + 1) f (cells_of ws))
-    to-next = rw (cells_with, with_with) (ap (with_cells ws) (map_to_next i f (cells_of ws) no_cell in_cells))
+    to_next = rw (cells_with, with_with) (ap (with_cells ws) (map_to_next i f (cells_of ws) no_cell in_cells))
 
 pub to_none : (f : Cell → Cell) (ws : List ℕ) → ws ≡ with_cells ws (map_to 0 f (cells_of ws))
 to_none f ws = sym (ap (with_cells ws) (map_to_none f (cells_of ws)) ∙ with_cells_lem ws)

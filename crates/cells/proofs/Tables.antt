@@ -46,11 +46,11 @@ module _ (t : List ℕ) (w n : ℕ) where
       same false = refl
 
 pub uncommitted_leaves : (p : Cell → Bool) (t : List ℕ) (c : Cell) → c.commit ≡ 0 → t ≡ raised_by p t c
-uncommitted_leaves p t c e = by-test (p c)
+uncommitted_leaves p t c e = by_test (p c)
   where
-    by-test : (b : Bool) → t ≡ cond b (raised t c.word c.commit) t
-    by-test true = raise_none t c.word c.commit e
-    by-test false = refl
+    by_test : (b : Bool) → t ≡ cond b (raised t c.word c.commit) t
+    by_test true = raise_none t c.word c.commit e
+    by_test false = refl
 
 module _ (p : Cell → Bool) (t : List ℕ) (ws : List ℕ) (i : ℕ) where
   tops_turn : i < length ws / 4
@@ -194,18 +194,18 @@ module _ (cs : List Cell) (c : Cell) (e : empty c ≡ false) where
         tops_tell (up_to view) c.word c.commit (ltb-true c.word all_tops p) cs
         ∙ has_same (over (up_to view) c.word c.commit) (between c view) (λ d. over_between c d e view) cs
 
-    surpassed-is : surpassed_in (tops_of (up_to view) cs) c ≡ (ltb c.word all_tops && has_cell (between c view) cs)
+    surpassed_is : surpassed_in (tops_of (up_to view) cs) c ≡ (ltb c.word all_tops && has_cell (between c view) cs)
     unfolding surpassed_in
-    surpassed-is = by_size (ltb c.word all_tops) refl
+    surpassed_is = by_size (ltb c.word all_tops) refl
       where
         by_size : (b : Bool) → ltb c.word all_tops ≡ b
             → cond b (ltb c.commit (get_or (tops_of (up_to view) cs) c.word 0)) false ≡ (b && has_cell (between c view) cs)
         by_size false p = refl
         by_size true p = passed_is p
 
-    held-is : held_in (tops_of (up_to view) cs) c view ≡ (ltb c.word all_tops && keeps cs c view)
+    held_is : held_in (tops_of (up_to view) cs) c view ≡ (ltb c.word all_tops && keeps cs c view)
     unfolding held_in
-    held-is = by_size (ltb c.word all_tops) refl
+    held_is = by_size (ltb c.word all_tops) refl
       where
         by_size : (b : Bool) → ltb c.word all_tops ≡ b
             → cond b (leb c.commit view && not (ltb c.commit (get_or (tops_of (up_to view) cs) c.word 0))) false
@@ -214,4 +214,4 @@ module _ (cs : List Cell) (c : Cell) (e : empty c ≡ false) where
         by_size true p = ap (λ (b : Bool). leb c.commit view && not b) (passed_is p)
 
   pub tables_tell : TablesTell cs c
-  tables_tell = record { outdated = outdated_is; surpassed = surpassed-is; held = held-is }
+  tables_tell = record { outdated = outdated_is; surpassed = surpassed_is; held = held_is }

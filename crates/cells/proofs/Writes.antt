@@ -35,11 +35,11 @@ module _ (number : ℕ) (c : Cell) where
     abbrev marked : Cell
     marked = record { word = c.word; value = c.value; number = c.number; commit = commit }
 
-    pub stamped-own : own number c ≡ true → stamped number commit c ≡ marked
-    stamped-own e = pick_true marked c e
+    pub stamped_own : own number c ≡ true → stamped number commit c ≡ marked
+    stamped_own e = pick_true marked c e
 
-    pub stamped-other : own number c ≡ false → stamped number commit c ≡ c
-    stamped-other e = pick_false marked c e
+    pub stamped_other : own number c ≡ false → stamped number commit c ≡ c
+    stamped_other e = pick_false marked c e
 
 module _ (cs : List Cell) (i : ℕ) where
   pub wipe_at : (number : ℕ) → get_or (map (wiped number) cs) i no_cell ≡ wiped number (get_or cs i no_cell)

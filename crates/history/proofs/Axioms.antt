@@ -21,7 +21,7 @@ use Rattle.history.proofs.Basics.{cases, eq?, lt?, none?, none_some}
 use Rattle.history.proofs.Leave.{wrote_at, leave_none, leave_last}
 use Rattle.history.proofs.Timed.{Timed, timed}
 use Rattle.history.proofs.Fair.{Told, snapshot, Fair}
-use Rattle.history.proofs.Demand.{at-end}
+use Rattle.history.proofs.Demand.{at_end_lem}
 
 -- ONE TRANSACTION'S EVENTS
 
@@ -244,4 +244,4 @@ module _ (L : Ledger) (t : Timed L) (f : Fair L) where
 pub snapshot_isolation : Isolated
 snapshot_isolation n h l calls =
     let hs = (from_fresh n calls).pairs in
-    isolated (ledger hs) (timed hs) (at-end n h l calls).fair
+    isolated (ledger hs) (timed hs) (at_end_lem n h l calls).fair

@@ -70,10 +70,10 @@ module _ (b : Board) (cs : List Cell) (L : Ledger) (𝓛 : Linked b cs L) (p : �
 
   -- CELLS OF WHICH EACH IS AS IT WAS OR WAS T'S: the drafts of the others
   module _ (after : List Cell) (same : (j : ℕ) → own T (cell_at cs j) ≡ false → cell_at after j ≡ cell_at cs j) where
-    draft-stays : (j n : ℕ) → own T (cell_at cs j) ≡ false → (cell_at after j).word ≡ n + 1 → (cell_at after j).commit ≡ 0
+    draft_stays : (j n : ℕ) → own T (cell_at cs j) ≡ false → (cell_at after j).word ≡ n + 1 → (cell_at after j).commit ≡ 0
         → (q : ℕ) × (q < all_places) × ((get_or left q idle_place).number ≡ (cell_at after j).number)
         × (last_write (put L.at p nobody q).did n ≡ some (cell_at after j).value)
-    draft-stays j n f ek ec =
+    draft_stays j n f ek ec =
         let s = same j f in
         let ek' : (cell_at cs j).word ≡ n + 1 = sym (ap (λ (c : Cell). c.word) s) ∙ ek in
         let ec' : (cell_at cs j).commit ≡ 0 = sym (ap (λ (c : Cell). c.commit) s) ∙ ec in
@@ -86,9 +86,9 @@ module _ (b : Board) (cs : List Cell) (L : Ledger) (𝓛 : Linked b cs L) (p : �
           run_other r.0 n d ∙ r.3 ∙ sym (ap (λ (c : Cell). some c.value) s),
         )
 
-    drafted-stays : (q n u : ℕ) → q < all_places → last_write (put L.at p nobody q).did n ≡ some u
+    drafted_stays : (q n u : ℕ) → q < all_places → last_write (put L.at p nobody q).did n ≡ some u
         → (i : ℕ) × Draft (cell_at after i) (get_or left q idle_place).number n
-    drafted-stays q n u g e =
+    drafted_stays q n u g e =
         let d = writer_other q n u e in
         let e' : wrote L q n ≡ some u = sym (run_other q n d) ∙ e in
         let r = 𝓛.drafted q n u g e' in
@@ -96,8 +96,8 @@ module _ (b : Board) (cs : List Cell) (L : Ledger) (𝓛 : Linked b cs L) (p : �
         (r.0, rw (c, at_q q d) r.1)
 
     -- what was shown is shown
-    shown-stays : (v w m n u : ℕ) → Live b v → v ≤ w → m < v → wrote_at L.past m n ≡ some u → Shows after w m n
-    shown-stays v w m n u live g a e =
+    shown_stays : (v w m n u : ℕ) → Live b v → v ≤ w → m < v → wrote_at L.past m n ≡ some u → Shows after w m n
+    shown_stays v w m n u live g a e =
         let r = 𝓛.kept v live m n u a e in
         let c = same r.cell (not_own T (cell_at cs r.cell) m r.above) in
         let within : (cell_at cs r.cell).commit ≤ w = omega (arith, r.within) in
@@ -143,13 +143,13 @@ module _ (b : Board) (cs : List Cell) (L : Ledger) (𝓛 : Linked b cs L) (p : �
         seen = λ q g. cases (eq? q p)
             (λ e. rw (put_same L.at p nobody q e) (omega arith))
             (λ e. rw (put_other L.at p nobody q e) (𝓛.seen q g));
-        drafts = λ j n ek ec. draft-stays emptied same_back j n (stays j n ek).0 ek ec;
+        drafts = λ j n ek ec. draft_stays emptied same_back j n (stays j n ek).0 ek ec;
         pasts = λ j n m ek ec.
             let s = (stays j n ek).1 in
             let r = 𝓛.pasts j n m (sym (ap (λ (c : Cell). c.word) s) ∙ ek) (sym (ap (λ (c : Cell). c.commit) s) ∙ ec) in
             (r.0, r.1 ∙ sym (ap (λ (c : Cell). some c.value) s));
-        drafted = drafted-stays emptied same_back;
-        kept = λ w live m n u g e. shown-stays emptied same_back w w m n u (live_back w live) (omega arith) g e;
+        drafted = drafted_stays emptied same_back;
+        kept = λ w live m n u g e. shown_stays emptied same_back w w m n u (live_back w live) (omega arith) g e;
         single = λ x y t n d e.
             𝓛.single x y t n (subst (λ (c : Cell). Draft c t n) (stays x n d.word).1 d)
             (subst (λ (c : Cell). Draft c t n) (stays y n e.word).1 e);
@@ -237,12 +237,12 @@ module _ (b : Board) (cs : List Cell) (L : Ledger) (𝓛 : Linked b cs L) (p : �
       record { cell = r.0; word = rw c r.1.word; above = rw c a; within = rw c a' })
       (λ y.
       let a : m < b.commits = omega (arith, 𝓛.counted) in
-      shown-stays sealed same_done b.commits w m n u (inl refl) (omega arith) a (sym (older m n (omega (arith, 𝓛.counted))) ∙ e)))
+      shown_stays sealed same_done b.commits w m n u (inl refl) (omega arith) a (sym (older m n (omega (arith, 𝓛.counted))) ∙ e)))
       (λ x.
       let d = at_q x.0 (open_other x.0 x.2) in
       let v : (place_at b x.0).view ≡ w = sym (ap (λ (x : Place). x.view) d) ∙ x.3 in
       let a : m < length L.past = omega (arith, 𝓛.seen x.0 x.1, (𝓛.placed x.0 x.1).view) in
-      shown-stays sealed same_done w w m n u (inr (x.0, x.1, sym (ap (λ (x : Place). x.state) d) ∙ x.2, v)) (omega arith) g
+      shown_stays sealed same_done w w m n u (inr (x.0, x.1, sym (ap (λ (x : Place). x.state) d) ∙ x.2, v)) (omega arith) g
       (sym (older m n a) ∙ e))
 
   unique_done : (x y n m : ℕ) → Version (cell_at sealed x) m n → Version (cell_at sealed y) m n → x ≡ y
@@ -268,9 +268,9 @@ module _ (b : Board) (cs : List Cell) (L : Ledger) (𝓛 : Linked b cs L) (p : �
         seen = λ q g. cases (eq? q p)
             (λ e. rw (put_same L.at p nobody q e) (omega arith))
             (λ e. rw (put_other L.at p nobody q e) (omega (arith, grown, 𝓛.seen q g)));
-        drafts = λ j n ek ec. draft-stays sealed same_done j n (stays' j ec).0 ek ec;
+        drafts = λ j n ek ec. draft_stays sealed same_done j n (stays' j ec).0 ek ec;
         pasts = pasts_done;
-        drafted = drafted-stays sealed same_done;
+        drafted = drafted_stays sealed same_done;
         kept = kept_done;
         single = λ x y t n d e.
             𝓛.single x y t n (subst (λ (c : Cell). Draft c t n) (stays' x d.commit).1 d)

@@ -35,7 +35,7 @@ use Rattle.history.proofs.Link.{Linked}
 use Rattle.history.proofs.Seen.{board_holds, read_right, conflict_exact}
 use Rattle.history.proofs.Timed.{Timed, fresh_timed, timed_note, timed}
 use Rattle.history.proofs.Fair.{Fair, fresh_fair, overlapped_apart}
-use Rattle.history.proofs.Steps.{step_links, step-fair}
+use Rattle.history.proofs.Steps.{step_links, step_fair}
 
 -- ANSWERS AT ONE STEP
 
@@ -81,7 +81,7 @@ unfolding run ledger_from
 there [] st L s 𝓛 t f = record { linked = 𝓛; fair = f }
 there (c ∷ cs) st L s 𝓛 t f =
     there cs (step st c).store (note L (pair_of st c)) (keeps_shape st c s) (step_links st L 𝓛 c s)
-    (timed_note L t (pair_of st c)) (step-fair st L 𝓛 t f c)
+    (timed_note L t (pair_of st c)) (step_fair st L 𝓛 t f c)
 
 head_eq : (x y : Pair) (xs ys : List Pair) → x ∷ xs ≡ y ∷ ys → x ≡ y
 head_eq x y xs ys e = cc
@@ -186,8 +186,8 @@ module _ (n : ℕ) (h : 0 < n) (l : n ≤ most_cells) where
     pub at : (before after : List Pair) (x : Pair) → hs ≡ before ++ (x ∷ after) → Here (length (fresh_store n).words) (ledger before) x
     at before after x e = here calls (fresh_store n) new_ledger (length (fresh_store n).words) refl fresh_shape fresh_links before after x e
 
-    pub at-end : There (from_fresh n calls).store (ledger hs)
-    at-end = there calls (fresh_store n) new_ledger fresh_shape fresh_links fresh_timed fresh_fair
+    pub at_end_lem : There (from_fresh n calls).store (ledger hs)
+    at_end_lem = there calls (fresh_store n) new_ledger fresh_shape fresh_links fresh_timed fresh_fair
 
     -- each read answered shows that transaction's own last write to the key, or else what the first n committed transactions leave
     pub reads : ReadsRight hs
@@ -198,7 +198,7 @@ module _ (n : ℕ) (h : 0 < n) (l : n ≤ most_cells) where
 
     -- no two committed transactions that overlapped wrote the same key
     pub apart : OverlappedApart hs
-    apart = overlapped_apart (ledger hs) (timed hs) at-end.fair
+    apart = overlapped_apart (ledger hs) (timed hs) at_end_lem.fair
 
     -- an update that gets as far as the conflict test is refused for conflict exactly when the key is contested
     pub conflicts : ConflictsExact hs
@@ -209,7 +209,7 @@ module _ (n : ℕ) (h : 0 < n) (l : n ≤ most_cells) where
 
     -- the last board holds, for each key, what the committed ones leave in commit order
     pub final : LastHolds hs (from_fresh n calls).store
-    final k = board_holds (from_fresh n calls).store.board (cells_in (from_fresh n calls).store) (ledger hs) at-end.linked k
+    final k = board_holds (from_fresh n calls).store.board (cells_in (from_fresh n calls).store) (ledger hs) at_end_lem.linked k
 
 pub demand3 : Statement
 demand3 n h l calls =

@@ -125,8 +125,8 @@ module _ (L : Ledger) (f : Fair L) where
         (λ z. o q k lq e v (rw (put_same L.at p r s z) at w))
         (λ z. f.others q s k lq ls d (rw (put_other L.at p r s z) at w) v))
 
-    fair-put : Fair (record { calls = L.calls + 1; starts = starts; at = runs'; past = L.past })
-    fair-put =
+    fair_put : Fair (record { calls = L.calls + 1; starts = starts; at = runs'; past = L.past })
+    fair_put =
         record {
           runs = λ q l. cases (eq? q p) (λ e. rw (put_same L.at p r q e) g) (λ e. rw (put_other L.at p r q e) (f.runs q l));
           others = others';
@@ -135,27 +135,27 @@ module _ (L : Ledger) (f : Fair L) where
 
   pub fair_start : (p : ℕ) → Fair (opened L (put L.at p (begun L)))
   fair_start p =
-      fair-put p (L.starts + 1) (begun L) (idle_fits L.past (length L.past) (length L.past)) (λ q k l d w w'. no_write k w')
+      fair_put p (L.starts + 1) (begun L) (idle_fits L.past (length L.past) (length L.past)) (λ q k l d w w'. no_write k w')
 
   pub fair_turn : (p : ℕ) (s : State) → p < all_places → Fair (tick L (put L.at p (turned s (L.at p))) L.past)
-  fair_turn p s l = fair-put p L.starts (turned s (L.at p)) (f.runs p l) (λ q k h d. f.others p q k l h d)
+  fair_turn p s l = fair_put p L.starts (turned s (L.at p)) (f.runs p l) (λ q k h d. f.others p q k l h d)
 
   -- an answered read that showed what its transaction sees
   pub fair_read : (p k v : ℕ) → p < all_places → v ≡ sees L p k → Fair (tick L (put L.at p (doing (read k v) (L.at p))) L.past)
   fair_read p k v l e =
       let r = L.at p in
-      fair-put p L.starts (doing (read k v) r) (read_fits L.past (length L.past) r.seen r.did (f.runs p l) k v e)
+      fair_put p L.starts (doing (read k v) r) (read_fits L.past (length L.past) r.seen r.did (f.runs p l) k v e)
       (λ q j h d. f.others p q j l h d)
 
   pub fair_rollback : (p : ℕ) → Fair (tick L (put L.at p nobody) L.past)
-  fair_rollback p = fair-put p L.starts nobody (idle_fits L.past (length L.past) 0) (λ q k h d w w'. no_write k w')
+  fair_rollback p = fair_put p L.starts nobody (idle_fits L.past (length L.past) 0) (λ q k h d w w'. no_write k w')
 
   -- a write that is not the first to its key, or that passed the conflict test
   pub fair_write : (p k v : ℕ) → p < all_places → (Wrote (L.at p).did k ⊎ (Contested L p k → ⊥))
       → Fair (tick L (put L.at p (doing (write k v) (L.at p))) L.past)
   fair_write p k v l c =
       let r = L.at p in
-      fair-put p L.starts (doing (write k v) r)
+      fair_put p L.starts (doing (write k v) r)
       (write_fits L.past (length L.past) r.seen r.did (f.runs p l) k v
       (λ i j h h' w w'. cases (was j w')
       (λ y. (f.runs p l).apart i j h h' w y)
@@ -186,8 +186,8 @@ module _ (L : Ledger) (f : Fair L) where
         (λ e. rw (put_other L.at p nobody q e)
         (grow_run L.past (L.at q) last (f.runs q h) (t.runs q).few (λ k w w'. f.others p q k l h e w' w)))
 
-    dones-after : (j : ℕ) → j < length past' → Fits past' j (done_at after j).seen (done_at after j).did
-    dones-after j h = cases (grow_index L.past last j h)
+    dones_after : (j : ℕ) → j < length past' → Fits past' j (done_at after j).seen (done_at after j).did
+    dones_after j h = cases (grow_index L.past last j h)
         (λ z.
         let d = done_at L j in
         rw (grow_at L.past last j z)
@@ -198,5 +198,5 @@ module _ (L : Ledger) (f : Fair L) where
         subst (λ (n : ℕ). Fits L.past n r.seen r.did) (sym z) (f.runs p l) in
         rw (grow_end L.past last j z) (grow_fits L.past j r.seen r.did g last (omega arith) (t.runs p).few))
 
-    pub fair-commit : Fair after
-    fair-commit = record { runs = runs_after; others = (fair_rollback p).others; dones = dones-after }
+    pub fair_commit : Fair after
+    fair_commit = record { runs = runs_after; others = (fair_rollback p).others; dones = dones_after }

@@ -282,18 +282,18 @@ module _ (b : Board) (cs : List Cell) (L : Ledger) (𝓛 : Linked b cs L) where
     unfolding Holds
     cell_of i h = (held (P.item i h) (P.needed i h)).0
 
-    cellOf-low : (i : ℕ) (h : i < n) → cell_of i h < n
+    cell_of_low : (i : ℕ) (h : i < n) → cell_of i h < n
     unfolding Holds cell_of
-    cellOf-low i h = (held (P.item i h) (P.needed i h)).1
+    cell_of_low i h = (held (P.item i h) (P.needed i h)).1
 
-    cellOf-taken : (i : ℕ) (h : i < n) → cell_of i h ≡ f → ⊥
+    cell_of_taken : (i : ℕ) (h : i < n) → cell_of i h ≡ f → ⊥
     unfolding Holds cell_of
-    cellOf-taken i h e =
+    cell_of_taken i h e =
         clash (ap (λ (x : ℕ). free b.places cs (cell_at cs x)) e ∙ ff) (held (P.item i h) (P.needed i h)).2
 
-    cellOf-inj : (i j : ℕ) (h : i < n) (g : j < n) → cell_of i h ≡ cell_of j g → i ≡ j
+    cell_of_inj : (i j : ℕ) (h : i < n) (g : j < n) → cell_of i h ≡ cell_of j g → i ≡ j
     unfolding Holds cell_of
-    cellOf-inj i j h g e =
+    cell_of_inj i j h g e =
         P.different i j h g
         (one_item (cell_at cs (held (P.item i h) (P.needed i h)).0) (P.item i h) (P.item j g) (P.needed i h) (P.needed j g)
         (held (P.item i h) (P.needed i h)).3
@@ -305,18 +305,18 @@ module _ (b : Board) (cs : List Cell) (L : Ledger) (𝓛 : Linked b cs L) where
 
     pick_low : (i : ℕ) (u : (i < n) ⊎ (n ≤ i)) → pick i u < n
     unfolding pick
-    pick_low i (inl h) = cellOf-low i h
+    pick_low i (inl h) = cell_of_low i h
     pick_low i (inr h) = fl
 
-    pick-inj : (i j : ℕ) (u : (i < n) ⊎ (n ≤ i)) (w : (j < n) ⊎ (n ≤ j)) → i ≤ n → j ≤ n → pick i u ≡ pick j w → i ≡ j
+    pick_inj : (i j : ℕ) (u : (i < n) ⊎ (n ≤ i)) (w : (j < n) ⊎ (n ≤ j)) → i ≤ n → j ≤ n → pick i u ≡ pick j w → i ≡ j
     unfolding pick
-    pick-inj i j (inl h) (inl g) a c e = cellOf-inj i j h g e
-    pick-inj i j (inl h) (inr g) a c e = absurd (cellOf-taken i h e)
-    pick-inj i j (inr h) (inl g) a c e = absurd (cellOf-taken j g (sym e))
-    pick-inj i j (inr h) (inr g) a c e = omega arith
+    pick_inj i j (inl h) (inl g) a c e = cell_of_inj i j h g e
+    pick_inj i j (inl h) (inr g) a c e = absurd (cell_of_taken i h e)
+    pick_inj i j (inr h) (inl g) a c e = absurd (cell_of_taken j g (sym e))
+    pick_inj i j (inr h) (inr g) a c e = omega arith
 
     too_many : ⊥
-    too_many = pigeons n (λ i. pick i (lt? i n)) (λ i h. pick_low i (lt? i n)) (λ i j h g e. pick-inj i j (lt? i n) (lt? j n) h g e)
+    too_many = pigeons n (λ i. pick i (lt? i n)) (λ i h. pick_low i (lt? i n)) (λ i j h g e. pick_inj i j (lt? i n) (lt? j n) h g e)
 
   pub packed_full : Packed (length cs) L → reusable b.places cs ≡ Found.Nothing
   unfolding reusable

@@ -228,11 +228,11 @@ module _ (st : Store) (L : Ledger) (s : in_shape st.board (length st.words) ≡ 
       (λ i f. none_some (wrote L p k) (cell_at cs i).value r.first
       (own_cell b cs L 𝓛 p i k r.place (open_busy b cs L 𝓛 p o) (own_draft (number_at b p) k cs i f)))
       (λ n t. clash (of_contested L p k (conflict_contested b cs L 𝓛 p k r.place t)) c)
-      (λ n t i f. (λ e. absurd (omega arith), λ q. absurd (nothing-found (reusable b.places cs) i f (packed_full b cs L 𝓛 q))))
+      (λ n t i f. (λ e. absurd (omega arith), λ q. absurd (nothing_found (reusable b.places cs) i f (packed_full b cs L 𝓛 q))))
       (λ n t f. (λ _. full_packed b cs L 𝓛 f, λ _. refl)))
     where
-      nothing-found : (x : Found) (i : ℕ) → x ≡ Found.At i → x ≡ Found.Nothing → ⊥
-      nothing-found x i e f = let z : ◌≡◌ {A = ℕ} 0 1 = cc in omega arith
+      nothing_found : (x : Found) (i : ℕ) → x ≡ Found.At i → x ≡ Found.Nothing → ⊥
+      nothing_found x i e f = let z : ◌≡◌ {A = ℕ} 0 1 = cc in omega arith
 
 pub all_right : AllRight
 all_right n h l calls before after x e =

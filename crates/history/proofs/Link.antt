@@ -18,7 +18,7 @@ use Rattle.steps.specs.declared.Board.{Board}
 use Rattle.steps.specs.Record.{all_places, is_idle, idle_place, place_at}
 use Rattle.steps.specs.Shape.{held, has_number, distinct}
 use Rattle.history.specs.History.{Event, write, last_write, Transaction, Ledger, put}
-use Rattle.steps.proofs.Tests.{by-test, and_left, and_right}
+use Rattle.steps.proofs.Tests.{by_test, and_left, and_right}
 use Rattle.history.proofs.Basics.{clash, or_left, or_right, none_some}
 use Rattle.history.proofs.Facts.{cell_at, Draft, Version}
 use Rattle.history.proofs.Leave.{wrote_at}
@@ -92,19 +92,19 @@ has_held [] q n h b e = absurd (not-suc-le-zero h)
 has_held (x ∷ xs) zero n h b e = rw (not-true (is_idle x.state) b) (or_left (eqb x.number n) (has_number n (held xs)) (eq-eqb _ _ e))
 has_held (x ∷ xs) (suc q) n h b e =
     let ih = has_held xs q n (le_of_suc-le-suc h) b e in
-    by-test (λ (l : List Place). has_number n l ≡ true) (is_idle x.state)
+    by_test (λ (l : List Place). has_number n l ≡ true) (is_idle x.state)
     (λ _. ih)
     (λ _. or_right (eqb x.number n) (has_number n (held xs)) ih)
 
 rest : (x : Place) (xs : List Place) → distinct (held (x ∷ xs)) ≡ true → distinct (held xs) ≡ true
 rest x xs =
-    by-test (λ (l : List Place). distinct l ≡ true → distinct (held xs) ≡ true) (is_idle x.state)
+    by_test (λ (l : List Place). distinct l ≡ true → distinct (held xs) ≡ true) (is_idle x.state)
     (λ _ d. d)
     (λ _ d. and_right (not (has_number x.number (held xs))) (distinct (held xs)) d)
 
 first : (x : Place) (xs : List Place) → busy x ≡ true → distinct (held (x ∷ xs)) ≡ true → has_number x.number (held xs) ≡ false
 first x xs =
-    by-test (λ (l : List Place). busy x ≡ true → distinct l ≡ true → has_number x.number (held xs) ≡ false) (is_idle x.state)
+    by_test (λ (l : List Place). busy x ≡ true → distinct l ≡ true → has_number x.number (held xs) ≡ false) (is_idle x.state)
     (λ i b _. clash i (not-true _ b))
     (λ _ _ d. not-true _ (and_left (not (has_number x.number (held xs))) (distinct (held xs)) d))
 

@@ -24,7 +24,7 @@ use Rattle.steps.specs.Shape.{in_shape}
 use Rattle.steps.specs.Store.{Store, Said, Outcome, cells_in}
 use Rattle.steps.specs.Step.{done, facts, number_at, view_at, step}
 use Rattle.steps.specs.Run.{Pair}
-use Rattle.steps.proofs.Tests.{by-test}
+use Rattle.steps.proofs.Tests.{by_test}
 use Rattle.steps.proofs.Cases.{Cleared, on_step, on_read, on_update, open_of}
 use Rattle.steps.proofs.Keeps.{shape_of}
 use Rattle.history.specs.History.{Event, write, last_write, Transaction, nobody, turned, Done, Ledger, new_ledger, put, tick}
@@ -83,7 +83,7 @@ module _ (B : ℕ) (positive : 0 < B) where
   refuse_small L (Call.Start p) n s = record { runs = s.runs; past = s.past }
   refuse_small L (Call.Read p k) n s = record { runs = s.runs; past = s.past }
   refuse_small L (Call.Update p k new) n s =
-      by-test (λ (f : ℕ → Transaction). SmallLedger (tick L f L.past)) (is_conflict n)
+      by_test (λ (f : ℕ → Transaction). SmallLedger (tick L f L.past)) (is_conflict n)
       (λ _. record { runs = put_small L.at p (turned State.Spoiled (L.at p)) s.runs (s.runs p); past = s.past })
       (λ _. record { runs = s.runs; past = s.past })
   refuse_small L (Call.Prepare p) n s = record { runs = s.runs; past = s.past }
@@ -92,7 +92,7 @@ module _ (B : ℕ) (positive : 0 < B) where
 
   note_small : (L : Ledger) (x : Pair) → new_value_of x.call < B → SmallLedger L → SmallLedger (note L x)
   note_small L x h s =
-      by-test (λ (M : Ledger). SmallLedger M) (is_ok x.said.number)
+      by_test (λ (M : Ledger). SmallLedger M) (is_ok x.said.number)
       (λ _. accept_small L x.call x.said h s)
       (λ _. refuse_small L x.call x.said.number s)
 
@@ -132,19 +132,19 @@ module _ (B : ℕ) (positive : 0 < B) where
     abbrev Below : Outcome → Type 0
     Below o = o.said.value < B
 
-    done-small : (c : Call) → Cleared (facts st c) → Below (done st c)
-    done-small (Call.Start p) g = omega (arith, leb-false most_starts b.starts (g Answer.Worn))
-    done-small (Call.Read p k) g =
+    done_small : (c : Call) → Cleared (facts st c) → Below (done st c)
+    done_small (Call.Start p) g = omega (arith, leb-false most_starts b.starts (g Answer.Worn))
+    done_small (Call.Read p k) g =
         let l = leb-false all_places p (g Answer.Place) in
         let o = open_of (place_at b p).state (g Answer.Idle) (g Answer.Spoiled) (g Answer.Held) in
         on_read Below st p k
         (λ i f. small.runs p k (cell_at cs i).value (own_cell b cs L 𝓛 p i k l (open_busy b cs L 𝓛 p o) (own_draft (number_at b p) k cs i f)))
         (λ n t. positive)
         (λ n t. rw (live_read b cs L 𝓛 (view_at b p) (inr (p, l, o, refl)) k) (leave_small L (view_at b p) k small))
-    done-small (Call.Update p k new) g = on_update Below st p k new (λ i f. positive) (λ n t. positive) (λ n t i f. positive) (λ n t f. positive)
-    done-small (Call.Prepare p) g = positive
-    done-small (Call.Commit p) g = let h = shape_of b (length st.words) s in omega (arith, h.few, h.room)
-    done-small (Call.Rollback p) g = positive
+    done_small (Call.Update p k new) g = on_update Below st p k new (λ i f. positive) (λ n t. positive) (λ n t i f. positive) (λ n t f. positive)
+    done_small (Call.Prepare p) g = positive
+    done_small (Call.Commit p) g = let h = shape_of b (length st.words) s in omega (arith, h.few, h.room)
+    done_small (Call.Rollback p) g = positive
 
     pub step_small : (c : Call) → (step st c).said.value < B
-    step_small c = on_step Below st c (λ a h. omega (arith, h.value)) (done-small c)
+    step_small c = on_step Below st c (λ a h. omega (arith, h.value)) (done_small c)

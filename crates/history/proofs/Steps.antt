@@ -1,5 +1,5 @@
 -- Every step keeps the link between the board and the ledger, and keeps the history fair.
---     step_links, step-fair     for any call
+--     step_links, step_fair     for any call
 --     note_plain                a refusal but CONFLICT leaves no trace
 -- Assumes nothing.
 use mathlib.Core.Path.{◌≡◌, refl, sym, ap, ◌∙◌}
@@ -37,7 +37,7 @@ use Rattle.history.proofs.Write.{spent_successor, write_links}
 use Rattle.history.proofs.Turn.{tick_links, read_links, turn_links, start_links}
 use Rattle.history.proofs.Close.{commit_links, rollback_links}
 use Rattle.history.proofs.Timed.{Timed}
-use Rattle.history.proofs.Fair.{Fair, fair_tick, fair_start, fair_turn, fair_read, fair_rollback, fair_write, fair-commit}
+use Rattle.history.proofs.Fair.{Fair, fair_tick, fair_start, fair_turn, fair_read, fair_rollback, fair_write, fair_commit}
 
 -- A REFUSAL BUT CONFLICT LEAVES NO TRACE
 
@@ -181,39 +181,39 @@ module _ (st : Store) (L : Ledger) (𝓛 : Linked st.board (cells_in st) L) wher
     abbrev StaysFair : Call → Outcome → Type 0
     StaysFair c o = Fair (note L (pair_with c o))
 
-    refused-fair : (c : Call) (a : Answer) → (number_of a ≡ 0 → ⊥) → (number_of a ≡ number_of Answer.Conflict → ⊥) → StaysFair c (answered a st)
-    refused-fair c a e g = rw (note_plain L (pair_with c (answered a st)) e g) (fair_tick L f)
+    refused_fair : (c : Call) (a : Answer) → (number_of a ≡ 0 → ⊥) → (number_of a ≡ number_of Answer.Conflict → ⊥) → StaysFair c (answered a st)
+    refused_fair c a e g = rw (note_plain L (pair_with c (answered a st)) e g) (fair_tick L f)
 
-    update-fair : (p k v : ℕ) → p < all_places → (place_at b p).state ≡ State.Open → StaysFair (Call.Update p k v) (updated_as st p k v)
+    update_fair : (p k v : ℕ) → p < all_places → (place_at b p).state ≡ State.Open → StaysFair (Call.Update p k v) (updated_as st p k v)
     unfolding accept refuse
-    update-fair p k v l o =
+    update_fair p k v l o =
         let h = open_busy b cs L 𝓛 p o in
         on_update (StaysFair (Call.Update p k v)) st p k v
         (λ i e. fair_write L f p k v l (inl ((cell_at cs i).value, own_cell b cs L 𝓛 p i k l h (own_draft (number_at b p) k cs i e))))
         (λ n t. fair_turn L f p State.Spoiled l)
         (λ n t i _. fair_write L f p k v l (inr (λ c. clash (contested_conflict b cs L 𝓛 p k l h c) t)))
-        (λ n t _. refused-fair (Call.Update p k v) Answer.Full (λ e. omega arith) (λ e. omega arith))
+        (λ n t _. refused_fair (Call.Update p k v) Answer.Full (λ e. omega arith) (λ e. omega arith))
 
     -- an outcome that is OK, with the value that the transaction sees, or PREPARED
-    read-fair : (p k : ℕ) → p < all_places → (place_at b p).state ≡ State.Open → StaysFair (Call.Read p k) (read_as st p k)
+    read_fair : (p k : ℕ) → p < all_places → (place_at b p).state ≡ State.Open → StaysFair (Call.Read p k) (read_as st p k)
     unfolding accept
-    read-fair p k l o =
+    read_fair p k l o =
         on_read (λ (x : Outcome). (x.said.number ≡ 0 → x.said.value ≡ sees L p k) → StaysFair (Call.Read p k) x) st p k
         (λ i e r. fair_read L f p k _ l (r refl))
-        (λ n t r. refused-fair (Call.Read p k) Answer.Prepared (λ e. omega arith) (λ e. omega arith))
+        (λ n t r. refused_fair (Call.Read p k) Answer.Prepared (λ e. omega arith) (λ e. omega arith))
         (λ n t r. fair_read L f p k _ l (r refl))
         (read_right st L 𝓛 p k l o)
 
-    done-fair : (c : Call) → Cleared (facts st c) → StaysFair c (done st c)
+    done_fair : (c : Call) → Cleared (facts st c) → StaysFair c (done st c)
     unfolding accept
-    done-fair (Call.Start p) g = fair_start L f p
-    done-fair (Call.Read p k) g =
-        read-fair p k (leb-false _ _ (g Answer.Place)) (open_of (place_at b p).state (g Answer.Idle) (g Answer.Spoiled) (g Answer.Held))
-    done-fair (Call.Update p k v) g =
-        update-fair p k v (leb-false _ _ (g Answer.Place)) (open_of (place_at b p).state (g Answer.Idle) (g Answer.Spoiled) (g Answer.Held))
-    done-fair (Call.Prepare p) g = fair_turn L f p State.Prepared (leb-false _ _ (g Answer.Place))
-    done-fair (Call.Commit p) g = fair-commit L f t p (leb-false _ _ (g Answer.Place))
-    done-fair (Call.Rollback p) g = fair_rollback L f p
+    done_fair (Call.Start p) g = fair_start L f p
+    done_fair (Call.Read p k) g =
+        read_fair p k (leb-false _ _ (g Answer.Place)) (open_of (place_at b p).state (g Answer.Idle) (g Answer.Spoiled) (g Answer.Held))
+    done_fair (Call.Update p k v) g =
+        update_fair p k v (leb-false _ _ (g Answer.Place)) (open_of (place_at b p).state (g Answer.Idle) (g Answer.Spoiled) (g Answer.Held))
+    done_fair (Call.Prepare p) g = fair_turn L f p State.Prepared (leb-false _ _ (g Answer.Place))
+    done_fair (Call.Commit p) g = fair_commit L f t p (leb-false _ _ (g Answer.Place))
+    done_fair (Call.Rollback p) g = fair_rollback L f p
 
-    pub step-fair : (c : Call) → Fair (note L (pair_of st c))
-    step-fair c = on_step (StaysFair c) st c (λ a h. refused-fair c a h.refusal h.calm) (done-fair c)
+    pub step_fair : (c : Call) → Fair (note L (pair_of st c))
+    step_fair c = on_step (StaysFair c) st c (λ a h. refused_fair c a h.refusal h.calm) (done_fair c)

@@ -12,7 +12,7 @@ use lib.ListN.{length, get_or, length-append, get_or-append}
 use lib.Seq.{get_or-append_seam}
 use Rattle.records.specs.declared.Call.{Call}
 use Rattle.steps.specs.declared.State.{State}
-use Rattle.steps.proofs.Tests.{by-test}
+use Rattle.steps.proofs.Tests.{by_test}
 use Rattle.steps.specs.Store.{Said}
 use Rattle.steps.specs.Run.{Pair}
 use Rattle.history.specs.History.{is_ok, is_conflict, Transaction, nobody, turned, Done, nothing, Ledger, new_ledger, done_at, begun, ended}
@@ -89,8 +89,8 @@ module _ (L : Ledger) (t : Timed L) where
 
   -- ANOTHER TRANSACTION AT PLACE p
   module _ (p starts : ℕ) (r : Transaction) (g : Saw L.past (length L.past) r.began r.seen) (b : r.began ≤ L.calls) where
-    pub timed-put : Timed (record { calls = L.calls + 1; starts = starts; at = put L.at p r; past = L.past })
-    timed-put =
+    pub timed_put : Timed (record { calls = L.calls + 1; starts = starts; at = put L.at p r; past = L.past })
+    timed_put =
         record {
           runs = λ q. cases (eq? q p) (λ e. rw (put_same L.at p r q e) g) (λ e. rw (put_other L.at p r q e) (t.runs q));
           begun = λ q. cases (eq? q p)
@@ -103,16 +103,16 @@ module _ (L : Ledger) (t : Timed L) where
 
   pub timed_start : (p : ℕ) → Timed (opened L (put L.at p (begun L)))
   timed_start p =
-      timed-put p (L.starts + 1) (begun L)
+      timed_put p (L.starts + 1) (begun L)
       (record { few = omega arith; before = t.ended; after = λ i h l. absurd (omega arith) })
       (omega arith)
 
   -- the same transaction, in another state or having done one thing more
   pub timed_turn : (p : ℕ) (r : Transaction) → r.began ≡ (L.at p).began → r.seen ≡ (L.at p).seen → Timed (tick L (put L.at p r) L.past)
-  timed_turn p r e f = timed-put p L.starts r (rw (e, f) (t.runs p)) (rw e (t.begun p))
+  timed_turn p r e f = timed_put p L.starts r (rw (e, f) (t.runs p)) (rw e (t.begun p))
 
   pub timed_leave : (p : ℕ) → Timed (tick L (put L.at p nobody) L.past)
-  timed_leave p = timed-put p L.starts nobody (nobody_saw L.past) (omega arith)
+  timed_leave p = timed_put p L.starts nobody (nobody_saw L.past) (omega arith)
 
   -- A COMMIT
   module _ (p : ℕ) where
@@ -133,8 +133,8 @@ module _ (L : Ledger) (t : Timed L) where
         (grow_saw L.past last (length L.past) (length past') (L.at q).began (L.at q).seen (t.runs q) (omega arith)
         (omega (arith, length-append L.past (last ∷ []))) (t.begun q)))
 
-    dones-after : (j : ℕ) → j < length past' → Saw past' j (nth past' j).began (nth past' j).seen
-    dones-after j h = cases (grow_index L.past last j h)
+    dones_after : (j : ℕ) → j < length past' → Saw past' j (nth past' j).began (nth past' j).seen
+    dones_after j h = cases (grow_index L.past last j h)
         (λ l.
         let d = done_at L j in
         rw (grow_at L.past last j l)
@@ -144,12 +144,12 @@ module _ (L : Ledger) (t : Timed L) where
         rw (grow_end L.past last j e)
         (grow_saw L.past last (length L.past) j r.began r.seen (t.runs p) (omega arith) (omega arith) (t.begun p)))
 
-    pub timed-commit : Timed (tick L (put L.at p nobody) past')
-    timed-commit =
+    pub timed_commit : Timed (tick L (put L.at p nobody) past')
+    timed_commit =
         record {
           runs = runs_after;
           begun = (timed_leave p).begun;
-          dones = dones-after;
+          dones = dones_after;
           ended = λ i h. cases (grow_index L.past last i h)
               (λ l. rw (grow_at L.past last i l) (omega (arith, t.ended i l)))
               (λ e. rw (grow_end L.past last i e) (omega arith));
@@ -169,7 +169,7 @@ module _ (L : Ledger) (t : Timed L) where
   timed_accept (Call.Read p k) v = timed_turn p _ refl refl
   timed_accept (Call.Update p k new) v = timed_turn p _ refl refl
   timed_accept (Call.Prepare p) v = timed_turn p _ refl refl
-  timed_accept (Call.Commit p) v = timed-commit p
+  timed_accept (Call.Commit p) v = timed_commit p
   timed_accept (Call.Rollback p) v = timed_leave p
 
   timed_refuse : (c : Call) (n : ℕ) → Timed (refuse L c n)
@@ -177,7 +177,7 @@ module _ (L : Ledger) (t : Timed L) where
   timed_refuse (Call.Start p) n = timed_tick
   timed_refuse (Call.Read p k) n = timed_tick
   timed_refuse (Call.Update p k new) n =
-      by-test (λ (f : ℕ → Transaction). Timed (tick L f L.past)) (is_conflict n)
+      by_test (λ (f : ℕ → Transaction). Timed (tick L f L.past)) (is_conflict n)
       (λ _. timed_turn p (turned State.Spoiled (L.at p)) refl refl)
       (λ _. timed_tick)
   timed_refuse (Call.Prepare p) n = timed_tick
@@ -186,7 +186,7 @@ module _ (L : Ledger) (t : Timed L) where
 
   pub timed_note : (h : Pair) → Timed (note L h)
   timed_note h =
-      by-test Timed (is_ok h.said.number) (λ _. timed_accept h.call h.said) (λ _. timed_refuse h.call h.said.number)
+      by_test Timed (is_ok h.said.number) (λ _. timed_accept h.call h.said) (λ _. timed_refuse h.call h.said.number)
 
 timed_from : (hs : List Pair) (L : Ledger) → Timed L → Timed (ledger_from L hs)
 unfolding ledger_from

@@ -110,7 +110,7 @@ any_old_version =
       right = Answer.Ok 1;
     }
 
--- dropping a rolled_back writer's words only in its first cell, so a second key stays blocked
+-- dropping a rolled-back writer's words only in its first cell, so a second key stays blocked
 abbrev pub first_cell_only : Cheat
 first_cell_only =
     record {

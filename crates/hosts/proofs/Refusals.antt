@@ -17,9 +17,9 @@ use Rattle.steps.specs.declared.Board.{Board}
 use Rattle.steps.specs.Record.{place_at, with_place, in_state}
 use Rattle.steps.specs.Store.{Store}
 use Rattle.steps.specs.Step.{step}
-use Rattle.steps.proofs.Tests.{by-test}
+use Rattle.steps.proofs.Tests.{by_test}
 use Rattle.steps.proofs.Refusals.{ChangesNothing, refusal_changes_nothing}
-use Rattle.steps.proofs.Exact.{never-above}
+use Rattle.steps.proofs.Exact.{never_above}
 use Rattle.lane_c.specs.Words.{state_word_at, state_word, record_of, words_of_record, well_formed}
 use Rattle.lane_c.specs.Call.{call_named, Crossed, store_of, refused_with, outcome_words, step_on_words, on_named, lane_call}
 use Rattle.lane_c.proofs.Words.{open_inside, open_word, state_set, words_record}
@@ -34,18 +34,18 @@ module _ (ws cs : List ℕ) where
   -- a step on the record
   module _ (w : well_formed ws ≡ true) where
     -- one state word
-    spoiled-words : (p : ℕ) → (place_at (record_of ws) p).state ≡ State.Open
+    spoiled_words : (p : ℕ) → (place_at (record_of ws) p).state ≡ State.Open
         → words_of_record (with_place (record_of ws) p (in_state State.Spoiled (place_at (record_of ws) p)))
         ≡ set ws (state_word_at p) (state_word State.Spoiled)
     unfolding record_of words_of_record
-    spoiled-words p o =
+    spoiled_words p o =
         let b : Board = record_of ws in
         state_set b.places (b.starts ∷ (b.commits ∷ [])) p State.Spoiled (open_inside b.places p o)
         ∙ ap (λ (l : List ℕ). set l (state_word_at p) (state_word State.Spoiled)) (words_record ws w)
 
-    was-open : (p : ℕ) → (place_at (record_of ws) p).state ≡ State.Open → get_or ws (state_word_at p) 0 ≡ state_word State.Open
+    was_open : (p : ℕ) → (place_at (record_of ws) p).state ≡ State.Open → get_or ws (state_word_at p) 0 ≡ state_word State.Open
     unfolding record_of
-    was-open p o = open_word ws p o
+    was_open p o = open_word ws p o
 
     stepped : (call : Call) → ((step (store_of ws cs) call).said.number ≡ 0 → ⊥)
         → LeavesAll ws cs (place_of call) (outcome_words (step (store_of ws cs) call))
@@ -56,8 +56,8 @@ module _ (ws cs : List ℕ) where
           value = c.value;
           cells = c.words;
           words = λ n. ap record_of (c.board n) ∙ words_record ws w;
-          was = λ e. was-open (place_of call) (c.open_before e);
-          spoiled = λ e. ap record_of (c.spoiled_after e) ∙ spoiled-words (place_of call) (c.open_before e);
+          was = λ e. was_open (place_of call) (c.open_before e);
+          spoiled = λ e. ap record_of (c.spoiled_after e) ∙ spoiled_words (place_of call) (c.open_before e);
         }
 
   -- a call
@@ -66,7 +66,7 @@ module _ (ws cs : List ℕ) where
 
   on_call : (call : Call) → Leaves (place_of call) (step_on_words ws cs call)
   on_call call =
-      by-test (Leaves (place_of call)) (well_formed ws)
+      by_test (Leaves (place_of call)) (well_formed ws)
       (λ w. stepped w call)
       (λ _ _. plain Answer.Board (place_of call) (λ e. omega arith) refl)
 
@@ -75,8 +75,8 @@ module _ (ws cs : List ℕ) where
 
   listed : (read : CallRead) → (on_named read ws cs).said.number ≤ number_of Answer.Record
   listed (CallRead.Good call) =
-      by-test (λ (x : Crossed). x.said.number ≤ number_of Answer.Record) (well_formed ws)
-      (λ _. omega (arith, never-above (store_of ws cs) call))
+      by_test (λ (x : Crossed). x.said.number ≤ number_of Answer.Record) (well_formed ws)
+      (λ _. omega (arith, never_above (store_of ws cs) call))
       (λ _. omega arith)
   listed CallRead.Record = omega arith
 

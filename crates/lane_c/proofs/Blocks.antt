@@ -4,7 +4,7 @@
 --     take_next, take_whole              a turn that stores element i, and the end: the first elements are those wanted, all are
 --     length_written, blocks_written     values written one behind another: how many words they take, and that their blocks are theirs
 --     written_turn                       a turn that writes value i
---     written-blocks                     what was read from blocks and is written again is the words
+--     written_blocks                     what was read from blocks and is written again is the words
 --     reads_last, stores_last            words read, and stored, one by one to the end
 -- Assumes nothing.
 use mathlib.Core.Path.{◌≡◌, refl, sym, ap, ◌∙◌}
@@ -103,18 +103,18 @@ module _ {A : Type 0} (w : ℕ) (f : A → List ℕ) (wide : (a : A) → length 
 
   -- read from blocks, and written again
   module _ (g : List ℕ → A) (t : List ℕ → Bool) (same : (b : List ℕ) → length b ≡ w → t b ≡ true → f (g b) ≡ b) where
-    pub written-blocks : (n : ℕ) (l : List ℕ) → w * n ≤ length l → each t (blocks w n l) ≡ true
+    pub written_blocks : (n : ℕ) (l : List ℕ) → w * n ≤ length l → each t (blocks w n l) ≡ true
         → flat_map f (map g (blocks w n l)) ≡ take (w * n) l
     unfolding blocks each flat_map
-    written-blocks zero l h e = rw mul-zero
-    written-blocks (suc n) l h e =
+    written_blocks zero l h e = rw mul-zero
+    written_blocks (suc n) l h e =
         let bs = blocks w n (drop w l) in
         let k : w + w * n ≤ length l = omega (arith, next w n) in
         let b : f (g (take w l)) ≡ take w l =
         same (take w l) (length-take-le w l (omega arith)) (and_left (t (take w l)) (each t bs) e)
         in
         let r : flat_map f (map g bs) ≡ take (w * n) (drop w l) =
-        written-blocks n (drop w l) (omega (arith, length-drop w l)) (and_right (t (take w l)) (each t bs) e)
+        written_blocks n (drop w l) (omega (arith, length-drop w l)) (and_right (t (take w l)) (each t bs) e)
         in
         (λ j. b j ++ r j) ∙ sym (take-add w (w * n) l) ∙ ap (λ (k : ℕ). take k l) (sym (next w n))
 

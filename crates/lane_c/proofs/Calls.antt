@@ -35,24 +35,24 @@ crossed_word r a ws cs u l = λ i. record { said = record { number = u i; value 
 module _ (ws cs : List ℕ) where
   -- a kind that names no call, and one that names a call
   module _ (kind place key value : ℕ) where
-    pub lane-record : (r : ℕ) → CallRead.Record ≡ call_named kind place key value → upper r ≡ 12 → lower r ≡ 0
+    pub lane_record : (r : ℕ) → CallRead.Record ≡ call_named kind place key value → upper r ≡ 12 → lower r ≡ 0
         → crossed r ws cs ≡ lane_call ws cs kind place key value
     unfolding lane_call
-    lane-record r n u l = crossed_word r Answer.Record ws cs u l ∙ ap (λ (c : CallRead). on_named c ws cs) n
+    lane_record r n u l = crossed_word r Answer.Record ws cs u l ∙ ap (λ (c : CallRead). on_named c ws cs) n
 
-    pub lane-good : (x : Crossed) (call : Call) → CallRead.Good call ≡ call_named kind place key value → x ≡ step_on_words ws cs call
+    pub lane_good : (x : Crossed) (call : Call) → CallRead.Good call ≡ call_named kind place key value → x ≡ step_on_words ws cs call
         → x ≡ lane_call ws cs kind place key value
     unfolding lane_call
-    lane-good x call n e = e ∙ ap (λ (c : CallRead). on_named c ws cs) n
+    lane_good x call n e = e ∙ ap (λ (c : CallRead). on_named c ws cs) n
 
   -- words that are no record, and words that are one
   module _ (call : Call) where
-    step-if : (t : Bool) → well_formed ws ≡ t
+    step_if : (t : Bool) → well_formed ws ≡ t
         → cond t (outcome_words (step (store_of ws cs) call)) (refused_with Answer.Board ws cs) ≡ step_on_words ws cs call
-    step-if t w = sym (ap (λ (t : Bool). cond t (outcome_words (step (store_of ws cs) call)) (refused_with Answer.Board ws cs)) w)
+    step_if t w = sym (ap (λ (t : Bool). cond t (outcome_words (step (store_of ws cs) call)) (refused_with Answer.Board ws cs)) w)
 
-    pub step-board : (r : ℕ) → well_formed ws ≡ false → upper r ≡ 1 → lower r ≡ 0 → crossed r ws cs ≡ step_on_words ws cs call
-    step-board r w u l = crossed_word r Answer.Board ws cs u l ∙ step-if false w
+    pub step_board : (r : ℕ) → well_formed ws ≡ false → upper r ≡ 1 → lower r ≡ 0 → crossed r ws cs ≡ step_on_words ws cs call
+    step_board r w u l = crossed_word r Answer.Board ws cs u l ∙ step_if false w
 
     pub step_done : (r : ℕ) (b : Board) (done : Answered) (ws' cs' : List ℕ) → well_formed ws ≡ true → b ≡ record_of ws
         → outcome done cs' ≡ step (lent b cs) call → ws' ≡ words_of_record done.board
@@ -61,7 +61,7 @@ module _ (ws cs : List ℕ) where
         crossed_word r done.answer ws' cs' u l
         ∙ ap (λ (x : List ℕ). refused_with done.answer x cs') s
         ∙ ap outcome_words (o ∙ ap (λ (x : Board). step (lent x cs) call) e)
-        ∙ step-if true w
+        ∙ step_if true w
 
 -- two words with the same upper and the same lower 32 bits are the same
 same_word : (r s : ℕ) → upper r ≡ upper s → lower r ≡ lower s → r ≡ s

@@ -1,7 +1,7 @@
 -- What a host may rely on from one call to the next.
 --     call_is_step          where the kind names a call and the words are a record, `lane_call` is that call's step on the record
---     serve-is-serving      where the words are a record, `lane_serve` is serving on that record
---     call_kept, serve-kept words that are a record are one afterwards too, and the cells are as many words as before
+--     serve_is_serving      where the words are a record, `lane_serve` is serving on that record
+--     call_kept, serve_kept words that are a record are one afterwards too, and the cells are as many words as before
 --     step_on, serve_on_lem     the same of the words of a record, as equations of all that comes back
 -- Assumes nothing.
 use mathlib.Core.Path.{◌≡◌, refl, ap, ◌∙◌}
@@ -83,27 +83,27 @@ module _ (ws cs : List ℕ) (w : well_formed ws ≡ true) where
     served =
         ap (λ (t : Bool). cond t (serving_words (serve_into (store_of ws cs) calls answers)) (nothing_served ws cs answers)) w
 
-    serve-lengths : (length (serve_into (store_of ws cs) calls answers).store.words ≡ length cs)
+    serve_lengths : (length (serve_into (store_of ws cs) calls answers).store.words ≡ length cs)
         × (length (serve_into (store_of ws cs) calls answers).store.board.places ≡ all_places)
     unfolding serve_of serve_first
-    serve-lengths =
+    serve_lengths =
         let ran = run_lengths (store_of ws cs) (calls_in (tried calls (length answers)) calls) in
         (ran.0, ran.1 ∙ places)
 
-    pub serve-is-serving : IsServing (serve_into (store_of ws cs) calls answers) (lane_serve ws cs calls answers)
-    serve-is-serving =
+    pub serve_is_serving : IsServing (serve_into (store_of ws cs) calls answers) (lane_serve ws cs calls answers)
+    serve_is_serving =
         let s = serve_into (store_of ws cs) calls answers in
         rw served
         (record {
           taken = refl;
           written = refl;
           why = refl;
-          store = ap (λ (b : Board). lent b s.store.words) (record_words_lem s.store.board serve-lengths.1);
+          store = ap (λ (b : Board). lent b s.store.words) (record_words_lem s.store.board serve_lengths.1);
           answers = refl;
         })
 
-    pub serve-kept : (well_formed (lane_serve ws cs calls answers).words ≡ true) × (length (lane_serve ws cs calls answers).cells ≡ length cs)
-    serve-kept = rw served (well_words (serve_into (store_of ws cs) calls answers).store.board serve-lengths.1, serve-lengths.0)
+    pub serve_kept : (well_formed (lane_serve ws cs calls answers).words ≡ true) × (length (lane_serve ws cs calls answers).cells ≡ length cs)
+    serve_kept = rw served (well_words (serve_into (store_of ws cs) calls answers).store.board serve_lengths.1, serve_lengths.0)
 
 -- the words of a record
 module _ (st : Store) (full : length st.board.places ≡ all_places) where

@@ -3,7 +3,7 @@
 --     wide, place_words_lem, words_place    a place and its words
 --     length_places, place_at_lem           the places that words are
 --     span, length_at                   the words that the code takes for a place
---     save-turn, save-end               a turn, and the end, of writing a record
+--     save_turn, save_end               a turn, and the end, of writing a record
 --     numbers                           theorem: where the counts stand, and how many words there are, as lane.h has it
 --     open_inside, open_word            a place that is open is one of those there, and its state word is 1
 --     state_set                         another state at a place is another word there
@@ -30,7 +30,7 @@ use Rattle.steps.proofs.Tests.{and_left, and_right}
 use Rattle.lane_c.specs.Words.{place_words, state_word_at, starts_at, commits_at, record_words, state_word, state_of}
 use Rattle.lane_c.specs.Words.{words_of_place, place_of_words, place_fits, words_at}
 use Rattle.lane_c.specs.Words.{blocks, each, place_blocks, places_of, words_of_places, words_of_counts, record_of, words_of_record, well_formed}
-use Rattle.lane_c.proofs.Blocks.{length_blocks, block_at, length_written, blocks_written, written_turn, written-blocks, reads_last, stores_last}
+use Rattle.lane_c.proofs.Blocks.{length_blocks, block_at, length_written, blocks_written, written_turn, written_blocks, reads_last, stores_last}
 
 -- where the counts stand, and how many words there are
 pub numbers : (starts_at ≡ 48) × ((commits_at ≡ 49) × (record_words ≡ 50))
@@ -178,15 +178,15 @@ module _ (b : Board) (full : length b.places ≡ all_places) where
 module _ (l : List ℕ) (long : length l ≡ record_words) (b : Board) (full : length b.places ≡ all_places) (i : ℕ)
     (so : take (state_word_at i) l ≡ words_of_places (take i b.places))
   where
-    pub save-turn : (ws rest : List ℕ) → i < all_places → ws ≡ words_of_place (place_at b i)
+    pub save_turn : (ws rest : List ℕ) → i < all_places → ws ≡ words_of_place (place_at b i)
         → take (state_word_at (i + 1)) (take (state_word_at i) l ++ (ws ++ rest)) ≡ words_of_places (take (i + 1) b.places)
     unfolding words_of_places
-    save-turn ws rest h e =
+    save_turn ws rest h e =
         written_turn place_words words_of_place wide l ws rest b.places i idle_place (omega arith) (omega arith) so e
 
-    pub save-end : i ≡ all_places → sets l starts_at (words_of_counts b) ≡ words_of_record b
+    pub save_end : i ≡ all_places → sets l starts_at (words_of_counts b) ≡ words_of_record b
     unfolding words_of_record
-    save-end e =
+    save_end e =
         let all : take starts_at l ≡ words_of_places (take all_places b.places) = rw e at so in
         stores_last (words_of_counts b) l starts_at (omega arith)
         ∙ ap (λ (r : List ℕ). r ++ words_of_counts b) (all ∙ ap words_of_places (take_all all_places b.places (omega arith)))
@@ -202,7 +202,7 @@ words_record ws h =
     let l : length ws ≡ record_words = well_length ws h in
     let fit : each place_fits (place_blocks ws) ≡ true = and_right (eqb (length ws) record_words) (each place_fits (place_blocks ws)) h in
     let ps : flat_map words_of_place (map place_of_words (place_blocks ws)) ≡ take starts_at ws =
-    written-blocks place_words words_of_place wide place_of_words place_fits words_place all_places ws (omega arith) fit
+    written_blocks place_words words_of_place wide place_of_words place_fits words_place all_places ws (omega arith) fit
     in
     let counts : gets (record_words - starts_at) ws starts_at ≡ drop starts_at ws = reads_last (record_words - starts_at) ws starts_at (omega arith) in
     (λ i. ps i ++ counts i) ∙ take-append-drop starts_at ws

@@ -49,31 +49,31 @@ module _ (x : Lent) (bytes : List ℕ) (n : ℕ) (k : Keeps x bytes) where
     abbrev value : Turning
     value = turn_of (desk_at x) (Input.got (brought x bytes n))
 
-    more-is : turn.more ≡ value.more
-    more-is = ap (λ (u : Turning). u.more) (as_read false some)
+    more_is : turn.more ≡ value.more
+    more_is = ap (λ (u : Turning). u.more) (as_read false some)
 
     -- it is the last: it met bytes that are no call
-    sends-last : turn.more ≡ false → (unread : List ℕ) → sent_by (turn_after x bytes n) ≡ rest_of (desk_at x) (brought x bytes n ++ unread)
-    sends-last m unread =
+    sends_last : turn.more ≡ false → (unread : List ℕ) → sent_by (turn_after x bytes n) ≡ rest_of (desk_at x) (brought x bytes n ++ unread)
+    sends_last m unread =
         sent_is
         ∙ ap (λ (u : Turning). u.sends) (as_read false some)
         ∙ sym (append-nil value.sends)
-        ∙ ap (λ (b : Bool). value.sends ++ cond b (rest_of value.desk unread) []) (sym m ∙ more-is)
+        ∙ ap (λ (b : Bool). value.sends ++ cond b (rest_of value.desk unread) []) (sym m ∙ more_is)
         ∙ sym (piece_turn (desk_at x) (brought x bytes n) unread)
 
     -- there is more to do: the next begins with less than a record, and with what the rest comes to
-    next-short : turn.more ≡ true → length (desk_at (left_by (turn_after x bytes n))).cut < call_bytes
-    next-short m =
+    next_short : turn.more ≡ true → length (desk_at (left_by (turn_after x bytes n))).cut < call_bytes
+    next_short m =
         subst⁻¹ (λ (d : AtDesk). length d.cut < call_bytes) (desk_is ∙ ap (λ (u : Turning). u.desk) (as_read false some))
-        (cut_short (desk_at x) (brought x bytes n) (sym more-is ∙ m))
+        (cut_short (desk_at x) (brought x bytes n) (sym more_is ∙ m))
 
-    sends-next : turn.more ≡ true → (input : List ℕ)
+    sends_next : turn.more ≡ true → (input : List ℕ)
         → sent_by (turn_after x bytes n) ++ rest_of (desk_at (left_by (turn_after x bytes n))) input
         ≡ rest_of (desk_at x) (brought x bytes n ++ input)
-    sends-next m input =
+    sends_next m input =
         (λ i. sent_is i ++ rest_of (desk_is i) input)
         ∙ ap (λ (u : Turning). u.sends ++ rest_of u.desk input) (as_read false some)
-        ∙ ap (λ (b : Bool). value.sends ++ cond b (rest_of value.desk input) []) (sym m ∙ more-is)
+        ∙ ap (λ (b : Bool). value.sends ++ cond b (rest_of value.desk input) []) (sym m ∙ more_is)
         ∙ sym (piece_turn (desk_at x) (brought x bytes n) input)
 
   -- after the end of the input there is no more to do
@@ -95,12 +95,12 @@ sends_end x bytes k h =
 sends : (x : Lent) {input out : List ℕ} {t : TurnedIn} → Turns x input out t → t.turned.more ≡ false
     → length (desk_at x).cut < call_bytes → out ≡ rest_of (desk_at x) input
 sends x (Turns.ended bytes k) e h = sends_end x bytes k h
-sends x (Turns.last bytes n unread k some) e h = sends-last x bytes n k (ne_eqb n 0 (λ z. omega arith)) e unread
+sends x (Turns.last bytes n unread k some) e h = sends_last x bytes n k (ne_eqb n 0 (λ z. omega arith)) e unread
 sends x (Turns.next {input = input} bytes n k m r) e h =
     let some : eqb n 0 ≡ false = more_some x bytes n k m in
     ap (λ (l : List ℕ). sent_by (turn_after x bytes n) ++ l)
-    (sends (left_by (turn_after x bytes n)) r e (next-short x bytes n k some m))
-    ∙ sends-next x bytes n k some m input
+    (sends (left_by (turn_after x bytes n)) r e (next_short x bytes n k some m))
+    ∙ sends_next x bytes n k some m input
 
 -- the turns of a fresh desk send what the desk writes
 pub turns : TurnsPromise

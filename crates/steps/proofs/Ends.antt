@@ -48,24 +48,24 @@ module _ (st : Store) (p key : ℕ) where
   read_seen e f g = ap (λ (x : Cell). Answer.Ok x.value) g ∙ rw (e, f)
 
   module _ (value : ℕ) where
-    pub update-own : {i : ℕ} {x y : Cell} {v : List ℕ} {r : Answered} → mine ≡ Found.At i → x ≡ get_or cs i no_cell → y ≡ valued value x
+    pub update_own : {i : ℕ} {x y : Cell} {v : List ℕ} {r : Answered} → mine ≡ Found.At i → x ≡ get_or cs i no_cell → y ≡ valued value x
         → v ≡ with_cells st.words (set cs i y) → r ≡ record { answer = Answer.Ok 0; board = b } → outcome r v ≡ updated_as st p key value
     unfolding updated_as
-    update-own {i} {v = v} e f g h w =
+    update_own {i} {v = v} e f g h w =
         ap (λ (r : Answered). outcome r v) w
         ∙ ap stored (h ∙ ap (λ (x : Cell). with_cells st.words (set cs i x)) (g ∙ ap (valued value) f))
         ∙ rw e
 
     module _ (e : mine ≡ Found.Nothing) where
-      pub update-clash : {r : Answered} → conflict key (number_at b p) (view_at b p) cs ≡ true
+      pub update_clash : {r : Answered} → conflict key (number_at b p) (view_at b p) cs ≡ true
           → r ≡ record { answer = Answer.Conflict; board = lost_board b p } → outcome r st.words ≡ updated_as st p key value
       unfolding updated_as
-      update-clash f w = ap (λ (r : Answered). outcome r st.words) w ∙ rw (e, f)
+      update_clash f w = ap (λ (r : Answered). outcome r st.words) w ∙ rw (e, f)
 
-      pub update-new : {o : Outcome} → conflict key (number_at b p) (view_at b p) cs ≡ false → o ≡ written st (number_at b p) key value
+      pub update_new : {o : Outcome} → conflict key (number_at b p) (view_at b p) cs ≡ false → o ≡ written st (number_at b p) key value
           → o ≡ updated_as st p key value
       unfolding updated_as
-      update-new f g = g ∙ rw (e, f)
+      update_new f g = g ∙ rw (e, f)
 
 module _ (st : Store) (number key value : ℕ) where
   abbrev free : Found

@@ -220,8 +220,8 @@ module _ (b : Board) (words : ℕ) (s : Shape b words) where
         }
 
     -- a place past the last stays out
-    start-shape : Shape (after (set b.places p new)) words
-    start-shape =
+    start_shape : Shape (after (set b.places p new)) words
+    start_shape =
         ⊎_elim
         (λ l. entered (rw idle_at at (put_at_lem b.places p new (ltb-true _ _ l) refl)))
         (λ l. rw (set_out b.places p new (ltb-false _ _ l)) grown)
@@ -235,9 +235,9 @@ module _ (b : Board) (words : ℕ) (s : Shape b words) where
     old = put_old b.places p e
 
     -- the place becomes idle, and the commit count grows by one at most
-    idle-shape : (c : ℕ) → b.commits ≤ c → c ≤ b.commits + 1
+    idle_shape : (c : ℕ) → b.commits ≤ c → c ≤ b.commits + 1
         → Shape (with_counts (with_place b p idle_place) b.starts c) words
-    idle-shape c lo hi =
+    idle_shape c lo hi =
         record {
           whole = s.whole;
           few = s.few;
@@ -249,8 +249,8 @@ module _ (b : Board) (words : ℕ) (s : Shape b words) where
         }
 
     -- the place changes its state alone
-    turn-shape : (t : State) → is_idle t ≡ false → Shape (with_place b p (in_state t (place_at b p))) words
-    turn-shape t i =
+    turn_shape : (t : State) → is_idle t ≡ false → Shape (with_place b p (in_state t (place_at b p))) words
+    turn_shape t i =
         let r : Put (in_state t (place_at b p)) others (held (set b.places p (in_state t (place_at b p)))) =
         put_at_lem b.places p (in_state t (place_at b p)) (inside b.places p e) i in
         record {
@@ -300,17 +300,17 @@ module _ (st : Store) where
   Fits o = Shape o.store.board words
 
   done_shape : Shape b words → (call : Call) → Cleared (facts st call) → Fits (done st call)
-  done_shape s (Call.Start p) g = start-shape b words s p (not-false _ (g Answer.Busy)) (leb-false _ _ (g Answer.Worn))
+  done_shape s (Call.Start p) g = start_shape b words s p (not-false _ (g Answer.Busy)) (leb-false _ _ (g Answer.Worn))
   done_shape s (Call.Read p key) g = on_read Fits st p key (λ i e. s) (λ e h. s) (λ e h. s)
   done_shape s (Call.Update p key value) g =
       on_update Fits st p key value
       (λ i e. s)
-      (λ e h. turn-shape b words s p (g Answer.Idle) State.Spoiled refl)
+      (λ e h. turn_shape b words s p (g Answer.Idle) State.Spoiled refl)
       (λ e h i f. s)
       (λ e h f. s)
-  done_shape s (Call.Prepare p) g = turn-shape b words s p (g Answer.Idle) State.Prepared refl
-  done_shape s (Call.Commit p) g = idle-shape b words s p (g Answer.Idle) _ (omega arith) (omega arith)
-  done_shape s (Call.Rollback p) g = idle-shape b words s p (g Answer.Idle) _ (omega arith) (omega arith)
+  done_shape s (Call.Prepare p) g = turn_shape b words s p (g Answer.Idle) State.Prepared refl
+  done_shape s (Call.Commit p) g = idle_shape b words s p (g Answer.Idle) _ (omega arith) (omega arith)
+  done_shape s (Call.Rollback p) g = idle_shape b words s p (g Answer.Idle) _ (omega arith) (omega arith)
 
   pub keeps_shape : (call : Call) → in_shape b words ≡ true → in_shape (step st call).store.board (length (step st call).store.words) ≡ true
   keeps_shape call e =

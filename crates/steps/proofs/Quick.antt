@@ -83,11 +83,11 @@ has_more p q f (d ∷ cs) e = by_first (p d) refl e (has_more p q f cs)
 
 -- a later view sees it too
 between_later : (c : Cell) (m W : ℕ) → m ≤ W → (d : Cell) → between c m d ≡ true → between c W d ≡ true
-between_later c m W h d = by-newer (newer c d)
+between_later c m W h d = by_newer (newer c d)
   where
-    by-newer : (a : Bool) → (a && leb d.commit m) ≡ true → (a && leb d.commit W) ≡ true
-    by-newer false e = e
-    by-newer true e = le-leb d.commit W (omega (arith, leb-true d.commit m e))
+    by_newer : (a : Bool) → (a && leb d.commit m) ≡ true → (a && leb d.commit W) ≡ true
+    by_newer false e = e
+    by_newer true e = le-leb d.commit W (omega (arith, leb-true d.commit m e))
 
 module _ (ps : List Place) (r : ℕ) (oldest : OldestAt ps r) (long : length ps ≡ all_places) (cs : List Cell) (c : Cell) where
   past_view : has_cell (between c (get_or ps r idle_place).view) cs ≡ true → (k : ℕ) → k < length ps
@@ -132,9 +132,9 @@ module _ (key number : ℕ) (ps : List Place) (cs : List Cell) where
 
   pub held_if : (has_foreign key number cs && held_back key number ps cs) ≡ held_back key number ps cs
   unfolding held_back
-  held_if = by-foreign (has_foreign key number cs) refl
+  held_if = by_foreign (has_foreign key number cs) refl
     where
-      by-foreign : (b : Bool) → has_foreign key number cs ≡ b
+      by_foreign : (b : Bool) → has_foreign key number cs ≡ b
           → (b && has_place (holds_back key number cs) ps) ≡ has_place (holds_back key number cs) ps
-      by-foreign true e = refl
-      by-foreign false e = sym (no_place (holds_back key number cs) ps (λ k l. none_held e (get_or ps k idle_place)))
+      by_foreign true e = refl
+      by_foreign false e = sym (no_place (holds_back key number cs) ps (λ k l. none_held e (get_or ps k idle_place)))

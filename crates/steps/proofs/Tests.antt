@@ -6,9 +6,9 @@ use mathlib.Core.Logic.{◌⊎◌, inl, inr}
 use mathlib.Core.Bool.{Bool, true, false, cond, ◌&&◌, ◌||◌}
 pub use Rattle.cells.proofs.Tests.{and_left, and_right, or_left, or_right}
 
-pub by-test {ℓ} : {A : Type 0} (P : A → Type ℓ) (t : Bool) {x y : A} → (t ≡ true → P x) → (t ≡ false → P y) → P (cond t x y)
-by-test P true f g = f refl
-by-test P false f g = g refl
+pub by_test {ℓ} : {A : Type 0} (P : A → Type ℓ) (t : Bool) {x y : A} → (t ≡ true → P x) → (t ≡ false → P y) → P (cond t x y)
+by_test P true f g = f refl
+by_test P false f g = g refl
 
 pub two : (t : Bool) → (t ≡ true) ⊎ (t ≡ false)
 two true = inl refl

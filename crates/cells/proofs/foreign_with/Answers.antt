@@ -4,7 +4,7 @@ use mathlib.Core.Bool.{true, false}
 use lib.ListN.{get_or}
 use Rattle.cells.specs.Cells.{cells_of, no_cell}
 use Rattle.cells.specs.Rules.{foreign_with, foreign_of}
-use Rattle.cells.proofs.Scan.{has_here, has-next, has_end}
+use Rattle.cells.proofs.Scan.{has_here, has_next, has_end}
 use Rattle.cells.proofs.foreign_with.Goals as goal
 
 pub loop-i-init : goal.loop-i-init
@@ -21,7 +21,7 @@ pub loop-i-preserved : goal.loop-i-preserved
 loop-i-preserved c =
     let s = c.args in
     let e : foreign_of s.key s.number s.other (get_or (cells_of s.cells.now) c.loop-i.i no_cell) ≡ false = cc in
-    (search rules, c.loop-i.invariant.1 ∙ has-next s.cells.now c.loop-i.i (search rules) _ e)
+    (search rules, c.loop-i.invariant.1 ∙ has_next s.cells.now c.loop-i.i (search rules) _ e)
 
 pub returns : goal.returns
 returns c = sym (c.loop-i.invariant.1 ∙ has_end _ c.loop-i.i (search rules) _)

@@ -6,7 +6,7 @@ use Prim.Native.Nat.{◌+◌}
 use lib.ListN.{get_or}
 use Rattle.cells.specs.Cells.{cells_of, no_cell}
 use Rattle.cells.specs.Rules.{between}
-use Rattle.cells.proofs.Scan.{has_here, has-next, has_end}
+use Rattle.cells.proofs.Scan.{has_here, has_next, has_end}
 use Rattle.cells.proofs.Skip.{has_skip, between_other}
 use Rattle.cells.proofs.kept.Goals as goal
 
@@ -31,7 +31,7 @@ loop-i-preserved c =
     let told = c.next-i-in-loop-i.ensures in
     let e : between s.c s.view (get_or (cells_of s.cells.now) c.loop-i.i no_cell) ≡ false = cc in
     c.loop-i.invariant
-    ∙ has-next s.cells.now c.loop-i.i (search rules) _ e
+    ∙ has_next s.cells.now c.loop-i.i (search rules) _ e
     ∙ has_skip (between s.c s.view) _ (between_other s.c s.view) (cells_of s.cells.now) (c.loop-i.i + 1) _
     told.onward
     told.passed

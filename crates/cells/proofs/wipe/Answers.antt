@@ -5,7 +5,7 @@ use Prim.Native.Nat.{ℕ, ◌+◌}
 use Rattle.cells.specs.declared.Cell.{Cell}
 use Rattle.cells.specs.Rules.{wiped}
 use Rattle.cells.specs.Search.{part_is}
-use Rattle.cells.proofs.Scan.{to_none, to_at, to-next, to_end}
+use Rattle.cells.proofs.Scan.{to_none, to_at, to_next, to_end}
 use Rattle.cells.proofs.Skip.{to_over, other_not_own}
 use Rattle.cells.proofs.Writes.{wiped_other}
 use Rattle.cells.proofs.wipe.Goals as goal
@@ -27,7 +27,7 @@ loop-i-preserved c =
     let ws = s.cells.now in
     let i = c.loop-i.i in (
       search rules,
-      to_over f s.number (stays s.number) ws _ (i + 1) _ (cc (to_at f ws i, to-next ws i (search rules) f)) c.next-i-in-loop-i.ensures,
+      to_over f s.number (stays s.number) ws _ (i + 1) _ (cc (to_at f ws i, to_next ws i (search rules) f)) c.next-i-in-loop-i.ensures,
     )
 
 pub returns : goal.returns

@@ -6,7 +6,7 @@ use native.Mathlib.Omega.{arith}
 use lib.ListN.{length-set}
 use Rattle.steps.proofs.Places.{long}
 use Rattle.lane_c.specs.Words.{words_of_places}
-use Rattle.lane_c.proofs.Words.{span, length_at, save-turn, save-end}
+use Rattle.lane_c.proofs.Words.{span, length_at, save_turn, save_end}
 use Rattle.lane_c.proofs.save.Goals as goal
 
 pub loop-i-init : goal.loop-i-init
@@ -24,7 +24,7 @@ loop-i-preserved c =
       search rules,
       (
         search rules,
-        save-turn l c.loop-i.invariant.1.0 b (search long) c.loop-i.i c.loop-i.invariant.1.1 _ _ (search rules)
+        save_turn l c.loop-i.invariant.1.0 b (search long) c.loop-i.i c.loop-i.invariant.1.1 _ _ (search rules)
             c.put_place.ensures,
       ),
     )
@@ -36,4 +36,4 @@ pub returns : goal.returns
 returns c =
     let at = c.loop-i in
     let b = c.args.b in
-    save-end at.words at.invariant.1.0 b (search long) at.i at.invariant.1.1 (search rules)
+    save_end at.words at.invariant.1.0 b (search long) at.i at.invariant.1.1 (search rules)

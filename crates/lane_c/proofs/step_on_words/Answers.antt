@@ -4,12 +4,12 @@ use mathlib.Core.Path.{◌≡◌, sym, ◌∙◌}
 use mathlib.Core.Bool.{true}
 use Rattle.lane_c.specs.Words.{well_formed}
 use Rattle.lane_c.proofs.Words.{well_length}
-use Rattle.lane_c.proofs.Calls.{step-board, step_done}
+use Rattle.lane_c.proofs.Calls.{step_board, step_done}
 use Rattle.lane_c.proofs.step_on_words.Goals as goal
 
 pub returns-then-not-well_formed : goal.returns-then-not-well_formed
 returns-then-not-well_formed c =
-    step-board _ _ _ _ (sym c.well_formed-2.ensures ∙ not-true _ c.if-not-well_formed.true-raw)
+    step_board _ _ _ _ (sym c.well_formed-2.ensures ∙ not-true _ c.if-not-well_formed.true-raw)
     c.answer_word.ensures.0 c.answer_word.ensures.1
 
 pub load-before-requires : goal.load-before-requires

@@ -15,7 +15,7 @@ use Rattle.cells.specs.declared.Cell.{Cell}
 use Rattle.cells.specs.Cells.{no_cell, cells_of, empty, committed}
 use Rattle.cells.specs.Rules.{lowest_from, has_cell, newer, between, keeps}
 use Rattle.cells.specs.Tables.{all_tops, any_cell, tops_of, outdated_by, surpassed_in, held_in}
-use Rattle.cells.proofs.Scan.{lowest-here, lowest-next, lowest_end}
+use Rattle.cells.proofs.Scan.{lowest_here, lowest_next, lowest_end}
 use Rattle.cells.proofs.Tables.{tables_tell}
 use Rattle.steps.specs.declared.Place.{Place}
 use Rattle.steps.specs.Record.{all_places, idle_place}
@@ -29,11 +29,11 @@ use Rattle.steps.proofs.reusable.Goals as goal
 module _ (ws : List ℕ) (ps : List Place) (i : ℕ) (h : i < length ws / 4) (c : Cell) (e : c ≡ get_or (cells_of ws) i no_cell)
     (left : reusable ps (cells_of ws) ≡ lowest_from i (free ps (cells_of ws)) (drop i (cells_of ws))) where
   here : free ps (cells_of ws) c ≡ true → Found.At i ≡ reusable ps (cells_of ws)
-  here f = sym (left ∙ lowest-here ws i h (free ps (cells_of ws)) (sym (ap (free ps (cells_of ws)) e) ∙ f))
+  here f = sym (left ∙ lowest_here ws i h (free ps (cells_of ws)) (sym (ap (free ps (cells_of ws)) e) ∙ f))
 
   next : free ps (cells_of ws) c ≡ false
       → reusable ps (cells_of ws) ≡ lowest_from (i + 1) (free ps (cells_of ws)) (drop (i + 1) (cells_of ws))
-  next f = left ∙ lowest-next ws i h (free ps (cells_of ws)) (sym (ap (free ps (cells_of ws)) e) ∙ f)
+  next f = left ∙ lowest_next ws i h (free ps (cells_of ws)) (sym (ap (free ps (cells_of ws)) e) ∙ f)
 
 -- what the table of all cells tells of a cell that is not empty
 told_old : (cs : List Cell) (x : Cell) (tops : Tops) (r t : Bool)

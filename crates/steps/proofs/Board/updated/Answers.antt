@@ -7,7 +7,7 @@ use Rattle.cells.specs.Cells.{cells_of}
 use Rattle.cells.specs.Rules.{own_at}
 use Rattle.steps.specs.Store.{lent}
 use Rattle.steps.specs.Step.{number_at}
-use Rattle.steps.proofs.Ends.{update-own, update-clash, update-new}
+use Rattle.steps.proofs.Ends.{update_own, update_clash, update_new}
 use Rattle.steps.proofs.Board.updated.Goals as goal
 
 pub returns-in-At : goal.returns-in-At
@@ -15,7 +15,7 @@ returns-in-At c =
     let found : (let a = c.args in
     own_at a.key (number_at a.self a.at) (cells_of a.cells.now) ≡ Found.At c.in-At.i) = sym (ap (λ (l : Looked). l.own) c.look-asked.ensures) ∙ c.in-At.is in
     let a = c.args in
-    update-own (lent a.self a.cells.now) a.at a.key a.value found c.cell_at-c.ensures
+    update_own (lent a.self a.cells.now) a.at a.key a.value found c.cell_at-c.ensures
     c.valued.ensures c.put_cell.ensures c.with.ensures
 
 pub returns-then-asked : goal.returns-then-asked
@@ -24,7 +24,7 @@ returns-then-asked c =
     own_at a.key (number_at a.self a.at) (cells_of a.cells.now) ≡ Found.Nothing) = sym (ap (λ (l : Looked). l.own) c.look-asked.ensures) ∙ c.in_default.is in
     let a = c.args in
     let clash = sym (ap (λ (l : Looked). l.conflict) c.look-asked.ensures) ∙ c.if-asked.true in
-    update-clash (lent a.self a.cells.now) a.at a.key a.value none clash c.lost.ensures
+    update_clash (lent a.self a.cells.now) a.at a.key a.value none clash c.lost.ensures
 
 pub returns : goal.returns
 returns c =
@@ -32,4 +32,4 @@ returns c =
     own_at a.key (number_at a.self a.at) (cells_of a.cells.now) ≡ Found.Nothing) = sym (ap (λ (l : Looked). l.own) c.look-asked.ensures) ∙ c.in_default.is in
     let a = c.args in
     let calm = sym (ap (λ (l : Looked). l.conflict) c.look-asked.ensures) ∙ c.if-asked.false in
-    update-new (lent a.self a.cells.now) a.at a.key a.value none calm c.written.ensures
+    update_new (lent a.self a.cells.now) a.at a.key a.value none calm c.written.ensures
