@@ -1,168 +1,168 @@
 -- Words and cells: where a cell's words stand, how many there are, and that words and cells are each other's inverse.
---     with-cells, cells-with     the words with their own cells are the words; the cells put in words are read back
---     with-with, past-with       putting cells in twice is putting in the last; the words past the last whole cell stay
---     past-whole, whole-words    in whole cells no word stands past the last
+--     with_cells_lem, cells_with     the words with their own cells are the words; the cells put in words are read back
+--     with_with, past_with       putting cells in twice is putting in the last; the words past the last whole cell stay
+--     past_whole, whole_words    in whole cells no word stands past the last
 --     length-..                  how many words and cells there are
---     count-for, whole-for       so many cells' words: how many cells they are, and that they are whole
---     zero-words                 the words of empty cells
---     cell-read, cell-write      what four reads and four stores at a cell's words are
---     cell-past, write-past      the same for a number that no cell has
+--     count_for, whole_for       so many cells' words: how many cells they are, and that they are whole
+--     zero_words                 the words of empty cells
+--     cell_read, cell_write      what four reads and four stores at a cell's words are
+--     cell_past, write_past      the same for a number that no cell has
 -- Assumes nothing.
-use mathlib.Core.Path.{_≡_, refl, sym, ap, _∙_}
+use mathlib.Core.Path.{◌≡◌, refl, sym, ap, ◌∙◌}
 use mathlib.Core.Bool.{true}
-use mathlib.Core.List.{List, [], _∷_, _++_, append-nil}
-use Prim.Native.Nat.{ℕ, zero, suc, _+_, _*_, _/_, _%_, _≤_, _<_}
+use mathlib.Core.List.{List, [], ◌∷◌, ◌++◌, append-nil}
+use Prim.Native.Nat.{ℕ, zero, suc, ◌+◌, ◌*◌, ◌/◌, ◌%◌, ◌≤◌, ◌<◌}
 use native.Mathlib.Omega.{arith}
 use borrow.Author.Tests.{eq-eqb, le-leb}
-use lib.ListN.{length, getD, set, replicate, List·getD-eq-default}
-use lib.Seq.{set-out}
-use Rattle·cells·specs.specs.declared.Cell.{Cell}
-use Rattle·laws.proofs.Tests.{and-both}
-use Rattle·cells·specs.specs.Cells.{cellWords, wordsFor, cellsOf, wordsOf, pastCells, withCells, countOf, wholeCells, noCell}
+use lib.ListN.{length, get_or, set, replicate, get_or-eq_default}
+use lib.Seq.{set_out}
+use Rattle.cells.specs.declared.Cell.{Cell}
+use Rattle.laws.proofs.Tests.{and_both}
+use Rattle.cells.specs.Cells.{cell_words, words_for, cells_of, words_of, past_cells, with_cells, count_of, whole_cells, no_cell}
 
-pub with-cells : (ws : List ℕ) → withCells ws (cellsOf ws) ≡ ws
-unfolding cellsOf wordsOf pastCells withCells
-with-cells [] = refl
-with-cells (a ∷ []) = refl
-with-cells (a ∷ (b ∷ [])) = refl
-with-cells (a ∷ (b ∷ (c ∷ []))) = refl
-with-cells (a ∷ (b ∷ (c ∷ (d ∷ ws)))) = ap (λ (r : List ℕ). a ∷ (b ∷ (c ∷ (d ∷ r)))) (with-cells ws)
+pub with_cells_lem : (ws : List ℕ) → with_cells ws (cells_of ws) ≡ ws
+unfolding cells_of words_of past_cells with_cells
+with_cells_lem [] = refl
+with_cells_lem (a ∷ []) = refl
+with_cells_lem (a ∷ (b ∷ [])) = refl
+with_cells_lem (a ∷ (b ∷ (c ∷ []))) = refl
+with_cells_lem (a ∷ (b ∷ (c ∷ (d ∷ ws)))) = ap (λ (r : List ℕ). a ∷ (b ∷ (c ∷ (d ∷ r)))) (with_cells_lem ws)
 
-cells-past : (ws : List ℕ) → cellsOf (pastCells ws) ≡ []
-unfolding cellsOf pastCells
-cells-past [] = refl
-cells-past (a ∷ []) = refl
-cells-past (a ∷ (b ∷ [])) = refl
-cells-past (a ∷ (b ∷ (c ∷ []))) = refl
-cells-past (a ∷ (b ∷ (c ∷ (d ∷ ws)))) = cells-past ws
+cells_past : (ws : List ℕ) → cells_of (past_cells ws) ≡ []
+unfolding cells_of past_cells
+cells_past [] = refl
+cells_past (a ∷ []) = refl
+cells_past (a ∷ (b ∷ [])) = refl
+cells_past (a ∷ (b ∷ (c ∷ []))) = refl
+cells_past (a ∷ (b ∷ (c ∷ (d ∷ ws)))) = cells_past ws
 
-past-past : (ws : List ℕ) → pastCells (pastCells ws) ≡ pastCells ws
-unfolding pastCells
-past-past [] = refl
-past-past (a ∷ []) = refl
-past-past (a ∷ (b ∷ [])) = refl
-past-past (a ∷ (b ∷ (c ∷ []))) = refl
-past-past (a ∷ (b ∷ (c ∷ (d ∷ ws)))) = past-past ws
+past_past : (ws : List ℕ) → past_cells (past_cells ws) ≡ past_cells ws
+unfolding past_cells
+past_past [] = refl
+past_past (a ∷ []) = refl
+past_past (a ∷ (b ∷ [])) = refl
+past_past (a ∷ (b ∷ (c ∷ []))) = refl
+past_past (a ∷ (b ∷ (c ∷ (d ∷ ws)))) = past_past ws
 
-pub length-past : (ws : List ℕ) → length (pastCells ws) ≡ length ws % 4
-unfolding pastCells
-length-past [] = refl
-length-past (a ∷ []) = refl
-length-past (a ∷ (b ∷ [])) = refl
-length-past (a ∷ (b ∷ (c ∷ []))) = refl
-length-past (a ∷ (b ∷ (c ∷ (d ∷ ws)))) = omega (arith, length-past ws)
+pub length_past : (ws : List ℕ) → length (past_cells ws) ≡ length ws % 4
+unfolding past_cells
+length_past [] = refl
+length_past (a ∷ []) = refl
+length_past (a ∷ (b ∷ [])) = refl
+length_past (a ∷ (b ∷ (c ∷ []))) = refl
+length_past (a ∷ (b ∷ (c ∷ (d ∷ ws)))) = omega (arith, length_past ws)
 
-pub length-cells : (ws : List ℕ) → length (cellsOf ws) ≡ length ws / 4
-unfolding cellsOf
-length-cells [] = refl
-length-cells (a ∷ []) = refl
-length-cells (a ∷ (b ∷ [])) = refl
-length-cells (a ∷ (b ∷ (c ∷ []))) = refl
-length-cells (a ∷ (b ∷ (c ∷ (d ∷ ws)))) = omega (arith, length-cells ws)
+pub length_cells : (ws : List ℕ) → length (cells_of ws) ≡ length ws / 4
+unfolding cells_of
+length_cells [] = refl
+length_cells (a ∷ []) = refl
+length_cells (a ∷ (b ∷ [])) = refl
+length_cells (a ∷ (b ∷ (c ∷ []))) = refl
+length_cells (a ∷ (b ∷ (c ∷ (d ∷ ws)))) = omega (arith, length_cells ws)
 
-pub cells-with : (ws : List ℕ) (cs : List Cell) → cellsOf (withCells ws cs) ≡ cs
-unfolding cellsOf wordsOf withCells
-cells-with ws [] = cells-past ws
-cells-with ws (c ∷ cs) = ap (λ (r : List Cell). c ∷ r) (cells-with ws cs)
+pub cells_with : (ws : List ℕ) (cs : List Cell) → cells_of (with_cells ws cs) ≡ cs
+unfolding cells_of words_of with_cells
+cells_with ws [] = cells_past ws
+cells_with ws (c ∷ cs) = ap (λ (r : List Cell). c ∷ r) (cells_with ws cs)
 
-pub past-with : (ws : List ℕ) (cs : List Cell) → pastCells (withCells ws cs) ≡ pastCells ws
-unfolding pastCells wordsOf withCells
-past-with ws [] = past-past ws
-past-with ws (c ∷ cs) = past-with ws cs
+pub past_with : (ws : List ℕ) (cs : List Cell) → past_cells (with_cells ws cs) ≡ past_cells ws
+unfolding past_cells words_of with_cells
+past_with ws [] = past_past ws
+past_with ws (c ∷ cs) = past_with ws cs
 
-pub with-with : (ws : List ℕ) (cs ds : List Cell) → withCells (withCells ws cs) ds ≡ withCells ws ds
-unfolding withCells
-with-with ws cs ds = ap (λ (past : List ℕ). wordsOf ds ++ past) (past-with ws cs)
+pub with_with : (ws : List ℕ) (cs ds : List Cell) → with_cells (with_cells ws cs) ds ≡ with_cells ws ds
+unfolding with_cells
+with_with ws cs ds = ap (λ (past : List ℕ). words_of ds ++ past) (past_with ws cs)
 
-pub length-with : (ws : List ℕ) (cs : List Cell) → length (withCells ws cs) ≡ 4 * length cs + length ws % 4
-unfolding wordsOf withCells
-length-with ws [] = omega (arith, length-past ws)
-length-with ws (c ∷ cs) = omega (arith, length-with ws cs)
+pub length_with : (ws : List ℕ) (cs : List Cell) → length (with_cells ws cs) ≡ 4 * length cs + length ws % 4
+unfolding words_of with_cells
+length_with ws [] = omega (arith, length_past ws)
+length_with ws (c ∷ cs) = omega (arith, length_with ws cs)
 
-pub length-same : (ws : List ℕ) (cs : List Cell) → length cs ≡ length (cellsOf ws) → length (withCells ws cs) ≡ length ws
-length-same ws cs e = omega (arith, length-with ws cs, length-cells ws)
+pub length_same : (ws : List ℕ) (cs : List Cell) → length cs ≡ length (cells_of ws) → length (with_cells ws cs) ≡ length ws
+length_same ws cs e = omega (arith, length_with ws cs, length_cells ws)
 
-no-words : (ws : List ℕ) → length ws ≡ 0 → ws ≡ []
-no-words [] e = refl
-no-words (a ∷ ws) e = absurd (omega arith)
+no_words : (ws : List ℕ) → length ws ≡ 0 → ws ≡ []
+no_words [] e = refl
+no_words (a ∷ ws) e = absurd (omega arith)
 
-pub past-whole : (ws : List ℕ) → length ws % 4 ≡ 0 → pastCells ws ≡ []
-past-whole ws e = no-words (pastCells ws) (length-past ws ∙ e)
+pub past_whole : (ws : List ℕ) → length ws % 4 ≡ 0 → past_cells ws ≡ []
+past_whole ws e = no_words (past_cells ws) (length_past ws ∙ e)
 
 -- no words are lent, and so none stand past the cells
-pub cells-words : (cs : List Cell) → cellsOf (wordsOf cs) ≡ cs
-unfolding cellsOf wordsOf
-cells-words [] = refl
-cells-words (c ∷ cs) = ap (λ (r : List Cell). c ∷ r) (cells-words cs)
+pub cells_words : (cs : List Cell) → cells_of (words_of cs) ≡ cs
+unfolding cells_of words_of
+cells_words [] = refl
+cells_words (c ∷ cs) = ap (λ (r : List Cell). c ∷ r) (cells_words cs)
 
-pub whole-words : (ws : List ℕ) (cs : List Cell) → length ws % 4 ≡ 0 → withCells ws cs ≡ wordsOf cs
-unfolding withCells
-whole-words ws cs e = ap (λ (past : List ℕ). wordsOf cs ++ past) (past-whole ws e) ∙ append-nil (wordsOf cs)
+pub whole_words : (ws : List ℕ) (cs : List Cell) → length ws % 4 ≡ 0 → with_cells ws cs ≡ words_of cs
+unfolding with_cells
+whole_words ws cs e = ap (λ (past : List ℕ). words_of cs ++ past) (past_whole ws e) ∙ append-nil (words_of cs)
 
 -- the words of so many cells
-pub length-words : (cs : List Cell) → length (wordsOf cs) ≡ wordsFor (length cs)
-length-words cs = ap length (sym (whole-words [] cs refl)) ∙ length-with [] cs ∙ omega arith
+pub length_words : (cs : List Cell) → length (words_of cs) ≡ words_for (length cs)
+length_words cs = ap length (sym (whole_words [] cs refl)) ∙ length_with [] cs ∙ omega arith
 
-pub count-for : (n : ℕ) → countOf (wordsFor n) ≡ n
-count-for n = omega arith
+pub count_for : (n : ℕ) → count_of (words_for n) ≡ n
+count_for n = omega arith
 
-pub whole-for : (most n : ℕ) → 0 < n → n ≤ most → wholeCells most (wordsFor n) ≡ true
-whole-for most n h l =
-    and-both (and-both (eq-eqb (wordsFor n % cellWords) 0 (omega arith)) (le-leb 1 (countOf (wordsFor n)) (omega arith)))
-    (le-leb (countOf (wordsFor n)) most (omega arith))
+pub whole_for : (most n : ℕ) → 0 < n → n ≤ most → whole_cells most (words_for n) ≡ true
+whole_for most n h l =
+    and_both (and_both (eq-eqb (words_for n % cell_words) 0 (omega arith)) (le-leb 1 (count_of (words_for n)) (omega arith)))
+    (le-leb (count_of (words_for n)) most (omega arith))
 
 -- words that are all 0 are those of empty cells
-pub zero-words : (n : ℕ) → replicate (wordsFor n) 0 ≡ wordsOf (replicate n noCell)
-unfolding wordsOf
-zero-words zero = refl
-zero-words (suc n) =
-    let far : wordsFor (suc n) ≡ suc (suc (suc (suc (wordsFor n)))) = omega arith in
-    rw far (ap (λ (l : List ℕ). 0 ∷ (0 ∷ (0 ∷ (0 ∷ l)))) (zero-words n))
+pub zero_words : (n : ℕ) → replicate (words_for n) 0 ≡ words_of (replicate n no_cell)
+unfolding words_of
+zero_words zero = refl
+zero_words (suc n) =
+    let far : words_for (suc n) ≡ suc (suc (suc (suc (words_for n)))) = omega arith in
+    rw far (ap (λ (l : List ℕ). 0 ∷ (0 ∷ (0 ∷ (0 ∷ l)))) (zero_words n))
 
 -- where the words of the next cell stand
 over : (i j : ℕ) → 4 * suc i + j ≡ suc (suc (suc (suc (4 * i + j))))
 over i j = omega arith
 
 -- four reads
-abbrev pub cellAt : List ℕ → ℕ → Cell
-cellAt ws i =
-    record { word = getD ws (4 * i) 0; value = getD ws (4 * i + 1) 0; number = getD ws (4 * i + 2) 0; commit = getD ws (4 * i + 3) 0 }
+abbrev pub cell_at : List ℕ → ℕ → Cell
+cell_at ws i =
+    record { word = get_or ws (4 * i) 0; value = get_or ws (4 * i + 1) 0; number = get_or ws (4 * i + 2) 0; commit = get_or ws (4 * i + 3) 0 }
 
-pub cell-read : (ws : List ℕ) (i : ℕ) → i < length ws / 4 → cellAt ws i ≡ getD (cellsOf ws) i noCell
-unfolding cellsOf
-cell-read [] i h = absurd (omega arith)
-cell-read (a ∷ []) i h = absurd (omega arith)
-cell-read (a ∷ (b ∷ [])) i h = absurd (omega arith)
-cell-read (a ∷ (b ∷ (c ∷ []))) i h = absurd (omega arith)
-cell-read (a ∷ (b ∷ (c ∷ (d ∷ ws)))) zero h = refl
-cell-read (a ∷ (b ∷ (c ∷ (d ∷ ws)))) (suc i) h =
+pub cell_read : (ws : List ℕ) (i : ℕ) → i < length ws / 4 → cell_at ws i ≡ get_or (cells_of ws) i no_cell
+unfolding cells_of
+cell_read [] i h = absurd (omega arith)
+cell_read (a ∷ []) i h = absurd (omega arith)
+cell_read (a ∷ (b ∷ [])) i h = absurd (omega arith)
+cell_read (a ∷ (b ∷ (c ∷ []))) i h = absurd (omega arith)
+cell_read (a ∷ (b ∷ (c ∷ (d ∷ ws)))) zero h = refl
+cell_read (a ∷ (b ∷ (c ∷ (d ∷ ws)))) (suc i) h =
     let e : 4 * suc i ≡ suc (suc (suc (suc (4 * i)))) = omega arith in
-    rw (over i 1, over i 2, over i 3, e) (cell-read ws i (omega arith))
+    rw (over i 1, over i 2, over i 3, e) (cell_read ws i (omega arith))
 
 -- four stores
 abbrev pub set4 : List ℕ → ℕ → Cell → List ℕ
-set4 ws i c = set (set (set (set ws (4 * i) (c .word)) (4 * i + 1) (c .value)) (4 * i + 2) (c .number)) (4 * i + 3) (c .commit)
+set4 ws i c = set (set (set (set ws (4 * i) c.word) (4 * i + 1) c.value) (4 * i + 2) c.number) (4 * i + 3) c.commit
 
-pub cell-write : (ws : List ℕ) (i : ℕ) (c : Cell) → i < length ws / 4 → set4 ws i c ≡ withCells ws (set (cellsOf ws) i c)
-unfolding cellsOf wordsOf pastCells withCells
-cell-write [] i x h = absurd (omega arith)
-cell-write (a ∷ []) i x h = absurd (omega arith)
-cell-write (a ∷ (b ∷ [])) i x h = absurd (omega arith)
-cell-write (a ∷ (b ∷ (c ∷ []))) i x h = absurd (omega arith)
-cell-write (a ∷ (b ∷ (c ∷ (d ∷ ws)))) zero x h =
-    ap (λ (r : List ℕ). x .word ∷ (x .value ∷ (x .number ∷ (x .commit ∷ r)))) (sym (with-cells ws))
-cell-write (a ∷ (b ∷ (c ∷ (d ∷ ws)))) (suc i) x h =
+pub cell_write : (ws : List ℕ) (i : ℕ) (c : Cell) → i < length ws / 4 → set4 ws i c ≡ with_cells ws (set (cells_of ws) i c)
+unfolding cells_of words_of past_cells with_cells
+cell_write [] i x h = absurd (omega arith)
+cell_write (a ∷ []) i x h = absurd (omega arith)
+cell_write (a ∷ (b ∷ [])) i x h = absurd (omega arith)
+cell_write (a ∷ (b ∷ (c ∷ []))) i x h = absurd (omega arith)
+cell_write (a ∷ (b ∷ (c ∷ (d ∷ ws)))) zero x h =
+    ap (λ (r : List ℕ). x.word ∷ (x.value ∷ (x.number ∷ (x.commit ∷ r)))) (sym (with_cells_lem ws))
+cell_write (a ∷ (b ∷ (c ∷ (d ∷ ws)))) (suc i) x h =
     let e : 4 * suc i ≡ suc (suc (suc (suc (4 * i)))) = omega arith in
     rw (over i 1, over i 2, over i 3, e)
-    (ap (λ (r : List ℕ). a ∷ (b ∷ (c ∷ (d ∷ r)))) (cell-write ws i x (omega arith)))
+    (ap (λ (r : List ℕ). a ∷ (b ∷ (c ∷ (d ∷ r)))) (cell_write ws i x (omega arith)))
 
 -- a number that no cell has: nothing is read there, and nothing written
 module _ (ws : List ℕ) (i : ℕ) (h : length ws / 4 ≤ i) where
-  past-cells : length (cellsOf ws) ≤ i
-  past-cells = rw length-cells h
+  past_cells_lem : length (cells_of ws) ≤ i
+  past_cells_lem = rw length_cells h
 
-  pub cell-past : noCell ≡ getD (cellsOf ws) i noCell
-  cell-past = sym (List·getD-eq-default (cellsOf ws) noCell past-cells)
+  pub cell_past : no_cell ≡ get_or (cells_of ws) i no_cell
+  cell_past = sym (get_or-eq_default (cells_of ws) no_cell past_cells_lem)
 
-  pub write-past : (c : Cell) → ws ≡ withCells ws (set (cellsOf ws) i c)
-  write-past c = sym (ap (withCells ws) (set-out (cellsOf ws) i c past-cells) ∙ with-cells ws)
+  pub write_past : (c : Cell) → ws ≡ with_cells ws (set (cells_of ws) i c)
+  write_past c = sym (ap (with_cells ws) (set_out (cells_of ws) i c past_cells_lem) ∙ with_cells_lem ws)

@@ -1,62 +1,62 @@
 -- What the writes do, cell by cell and word by word.
 --     stamped-.., wiped-..       an own cell, and any other cell, that is stamped or wiped
 --     ended-..                   the same for a cell whose transaction ends, in either way
---     stamp-at, wipe-at          each cell after every own cell is stamped or wiped
---     length-map-cells, length-put     the lent words stay as many
---     put-other                  where one cell is written whole, every other word stays
+--     stamp_at, wipe_at          each cell after every own cell is stamped or wiped
+--     length_map_cells, length_put     the lent words stay as many
+--     put_other                  where one cell is written whole, every other word stays
 -- Assumes nothing.
-use mathlib.Core.Path.{_≡_, sym, ap, _∙_}
+use mathlib.Core.Path.{◌≡◌, sym, ap, ◌∙◌}
 use mathlib.Core.Bool.{Bool, true, false}
-use mathlib.Core.Logic.{_⊎_, inl, inr, _≢_}
+use mathlib.Core.Logic.{◌⊎◌, inl, inr, ◌≢◌}
 use mathlib.Core.List.{List, map}
-use Prim.Native.Nat.{ℕ, _+_, _*_, _≤_, _<_}
+use Prim.Native.Nat.{ℕ, ◌+◌, ◌*◌, ◌≤◌, ◌<◌}
 use native.Mathlib.Omega.{arith}
-use lib.ListN.{length, getD, set, length-map, length-set, List·getD-map}
-use lib.Seq.{getD-set-other}
-use Rattle·cells·specs.specs.declared.Cell.{Cell}
-use Rattle·cells·specs.specs.Cells.{noCell, cellsOf, withCells, countOf, own}
-use Rattle·cells·specs.specs.Rules.{pickCell, sealed, stamped, wiped, ended}
-use Rattle·cells·proofs.proofs.Words.{length-same, cell-write, set4}
+use lib.ListN.{length, get_or, set, length-map, length-set, get_or-map}
+use lib.Seq.{get_or-set_other}
+use Rattle.cells.specs.declared.Cell.{Cell}
+use Rattle.cells.specs.Cells.{no_cell, cells_of, with_cells, count_of, own}
+use Rattle.cells.specs.Rules.{pick_cell, sealed, stamped, wiped, ended}
+use Rattle.cells.proofs.Words.{length_same, cell_write, set4}
 
 -- what a choice by a test comes to
-pub pick-true : {t : Bool} (a b : Cell) → t ≡ true → pickCell t a b ≡ a
-pick-true a b e = ap (λ (u : Bool). pickCell u a b) e
+pub pick_true : {t : Bool} (a b : Cell) → t ≡ true → pick_cell t a b ≡ a
+pick_true a b e = ap (λ (u : Bool). pick_cell u a b) e
 
-pub pick-false : {t : Bool} (a b : Cell) → t ≡ false → pickCell t a b ≡ b
-pick-false a b e = ap (λ (u : Bool). pickCell u a b) e
+pub pick_false : {t : Bool} (a b : Cell) → t ≡ false → pick_cell t a b ≡ b
+pick_false a b e = ap (λ (u : Bool). pick_cell u a b) e
 
 module _ (number : ℕ) (c : Cell) where
-  pub wiped-own : own number c ≡ true → wiped number c ≡ noCell
-  wiped-own e = pick-true noCell c e
+  pub wiped_own : own number c ≡ true → wiped number c ≡ no_cell
+  wiped_own e = pick_true no_cell c e
 
-  pub wiped-other : own number c ≡ false → wiped number c ≡ c
-  wiped-other e = pick-false noCell c e
+  pub wiped_other : own number c ≡ false → wiped number c ≡ c
+  wiped_other e = pick_false no_cell c e
 
   module _ (commit : ℕ) where
     pub stamped-own : own number c ≡ true → stamped number commit c ≡ sealed commit c
-    stamped-own e = pick-true (sealed commit c) c e
+    stamped-own e = pick_true (sealed commit c) c e
 
     pub stamped-other : own number c ≡ false → stamped number commit c ≡ c
-    stamped-other e = pick-false (sealed commit c) c e
+    stamped-other e = pick_false (sealed commit c) c e
 
     pub ended-other : (kept : Bool) → own number c ≡ false → ended number kept commit c ≡ c
     ended-other true e = stamped-other e
-    ended-other false e = wiped-other e
+    ended-other false e = wiped_other e
 
-    pub ended-own : (kept t : Bool) → own number c ≡ true → kept ≡ t → ended number kept commit c ≡ pickCell t (sealed commit c) noCell
+    pub ended-own : (kept t : Bool) → own number c ≡ true → kept ≡ t → ended number kept commit c ≡ pick_cell t (sealed commit c) no_cell
     ended-own kept true e f = rw f (stamped-own e)
-    ended-own kept false e f = rw f (wiped-own e)
+    ended-own kept false e f = rw f (wiped_own e)
 
 module _ (cs : List Cell) (i : ℕ) where
-  pub wipe-at : (number : ℕ) → getD (map (wiped number) cs) i noCell ≡ wiped number (getD cs i noCell)
-  wipe-at number = List·getD-map (wiped number) cs i noCell
+  pub wipe_at : (number : ℕ) → get_or (map (wiped number) cs) i no_cell ≡ wiped number (get_or cs i no_cell)
+  wipe_at number = get_or-map (wiped number) cs i no_cell
 
-  pub stamp-at : (number commit : ℕ)
-      → getD (map (stamped number commit) cs) i noCell ≡ stamped number commit (getD cs i noCell)
-  stamp-at number commit = List·getD-map (stamped number commit) cs i noCell
+  pub stamp_at : (number commit : ℕ)
+      → get_or (map (stamped number commit) cs) i no_cell ≡ stamped number commit (get_or cs i no_cell)
+  stamp_at number commit = get_or-map (stamped number commit) cs i no_cell
 
-pub length-map-cells : (f : Cell → Cell) (ws : List ℕ) → length (withCells ws (map f (cellsOf ws))) ≡ length ws
-length-map-cells f ws = length-same ws (map f (cellsOf ws)) (length-map (cellsOf ws) f)
+pub length_map_cells : (f : Cell → Cell) (ws : List ℕ) → length (with_cells ws (map f (cells_of ws))) ≡ length ws
+length_map_cells f ws = length_same ws (map f (cells_of ws)) (length-map (cells_of ws) f)
 
 -- a word outside of cell i is none of its four
 apart : (i j k : ℕ) → k < 4 → (j < 4 * i) ⊎ (4 * i + 4 ≤ j) → j ≢ 4 * i + k
@@ -64,17 +64,17 @@ apart i j k h (inl low) e = omega arith
 apart i j k h (inr high) e = omega arith
 
 module _ (ws : List ℕ) (i : ℕ) (c : Cell) where
-  pub length-put : length (withCells ws (set (cellsOf ws) i c)) ≡ length ws
-  length-put = length-same ws (set (cellsOf ws) i c) (length-set (cellsOf ws) i c)
+  pub length_put : length (with_cells ws (set (cells_of ws) i c)) ≡ length ws
+  length_put = length_same ws (set (cells_of ws) i c) (length-set (cells_of ws) i c)
 
-  set4-other : (j : ℕ) → (j < 4 * i) ⊎ (4 * i + 4 ≤ j) → getD (set4 ws i c) j 0 ≡ getD ws j 0
-  set4-other j away =
+  set4_other : (j : ℕ) → (j < 4 * i) ⊎ (4 * i + 4 ≤ j) → get_or (set4 ws i c) j 0 ≡ get_or ws j 0
+  set4_other j away =
       let e₀ : j ≢ 4 * i = λ e. apart i j 0 (omega arith) away (omega arith) in
       let e₁ : j ≢ 4 * i + 1 = apart i j 1 (omega arith) away in
       let e₂ : j ≢ 4 * i + 2 = apart i j 2 (omega arith) away in
       let e₃ : j ≢ 4 * i + 3 = apart i j 3 (omega arith) away in
-      simp getD-set-other
+      simp get_or-set_other
 
-  pub put-other : i < countOf (length ws) → (j : ℕ) → (j < 4 * i) ⊎ (4 * i + 4 ≤ j)
-      → getD (withCells ws (set (cellsOf ws) i c)) j 0 ≡ getD ws j 0
-  put-other h j away = ap (λ (v : List ℕ). getD v j 0) (sym (cell-write ws i c h)) ∙ set4-other j away
+  pub put_other : i < count_of (length ws) → (j : ℕ) → (j < 4 * i) ⊎ (4 * i + 4 ≤ j)
+      → get_or (with_cells ws (set (cells_of ws) i c)) j 0 ≡ get_or ws j 0
+  put_other h j away = ap (λ (v : List ℕ). get_or v j 0) (sym (cell_write ws i c h)) ∙ set4_other j away

@@ -1,9 +1,9 @@
 // The cells of a lane board: four lent words to a cell. How many there are, and which word is which, is known here alone.
-ghost use mathlib.Core.Path.{_≡_};
-ghost use lib.ListN.{length, getD, set};
-ghost use Rattle·cells·specs.specs.Cells.{noCell, cellsOf, withCells, countOf, wholeCells, empty, ofKey, committed, own, foreign, admits};
-ghost use Rattle·cells·specs.specs.Rules.{foreignOf, clashes, newestOf, newer, between, partOf, draft, valued, sealed, ended};
+ghost use Rattle.std.specs.Prelude.{◌≡◌, length, get_or, set};
+ghost use Rattle.cells.specs.Cells.{no_cell, cells_of, with_cells, count_of, whole_cells, empty, of_key, committed, own, foreign, admits};
+ghost use Rattle.cells.specs.Rules.{foreign_of, clashes, newest_of, newer, between, part_of, draft, valued, sealed, ended};
 
+#[derive(Drop)]
 pub struct Cell {
     pub word: u32,
     pub value: u32,
@@ -12,6 +12,7 @@ pub struct Cell {
 }
 
 // Who reads: a transaction's number and its view.
+#[derive(Drop)]
 pub struct Reader {
     pub number: u32,
     pub view: u32,
@@ -26,7 +27,7 @@ impl Cell {
 
     // Four zeros
     pub fn none() -> Cell
-        ensures { λ r. ⌜ r ≡ noCell ⌝ }
+        ensures { result ≡ no_cell }
     {
         Cell {
             word: 0,
@@ -38,56 +39,56 @@ impl Cell {
 
     // 0 marks an empty cell
     pub fn empty(self) -> bool
-        ensures { λ r. ⌜ r ≡ empty self ⌝ }
+        ensures { result ≡ empty self }
     {
         self.word == 0
     }
 
     // A cell of the key, for any key: the sum is taken where it cannot wrap
     pub fn of_key(self, key: u32) -> bool
-        ensures { λ r. ⌜ r ≡ ofKey key self ⌝ }
+        ensures { result ≡ of_key key self }
     {
         self.word as u64 == key as u64 + 1
     }
 
     // Nonempty, with a commit number above 0
     pub fn committed(self) -> bool
-        ensures { λ r. ⌜ r ≡ committed self ⌝ }
+        ensures { result ≡ committed self }
     {
         (self.word != 0) & (0 < self.commit)
     }
 
     // Nonempty, uncommitted and with the transaction's number
     pub fn own(self, number: u32) -> bool
-        ensures { λ r. ⌜ r ≡ own number self ⌝ }
+        ensures { result ≡ own number self }
     {
         (self.word != 0) & (self.commit == 0) & (self.number == number)
     }
 
     // Nonempty, uncommitted and with another number
     pub fn foreign(self, number: u32) -> bool
-        ensures { λ r. ⌜ r ≡ foreign number self ⌝ }
+        ensures { result ≡ foreign number self }
     {
         (self.word != 0) & (self.commit == 0) & (self.number != number)
     }
 
     // Committed, with a commit number that is at most the reader's view
     pub fn admitted(self, reader: Reader) -> bool
-        ensures { λ r. ⌜ r ≡ admits reader self ⌝ }
+        ensures { result ≡ admits reader self }
     {
         self.committed() & (self.commit <= reader.view)
     }
 
     // Foreign, or committed with a commit number above the reader's view
     pub fn clashes(self, reader: Reader) -> bool
-        ensures { λ r. ⌜ r ≡ clashes reader self ⌝ }
+        ensures { result ≡ clashes reader self }
     {
         self.foreign(reader.number) | (self.committed() & (reader.view < self.commit))
     }
 
     // The newest that the reader admits so far, after this cell
     pub fn newest_of(self, best: Cell, reader: Reader) -> Cell
-        ensures { λ r. ⌜ r ≡ newestOf reader best self ⌝ }
+        ensures { result ≡ newest_of reader best self }
     {
         if self.admitted(reader) & (best.commit < self.commit) {
             self
@@ -98,35 +99,35 @@ impl Cell {
 
     // d is a committed cell of the same key with a number above this one's
     pub fn newer(self, d: Cell) -> bool
-        ensures { λ r. ⌜ r ≡ newer self d ⌝ }
+        ensures { result ≡ newer self d }
     {
         (d.word == self.word) & d.committed() & (self.commit < d.commit)
     }
 
     // d is newer, and its number is at most the reader's view
     pub fn between(self, d: Cell, reader: Reader) -> bool
-        ensures { λ r. ⌜ r ≡ between self reader d ⌝ }
+        ensures { result ≡ between self reader d }
     {
         self.newer(d) && d.commit <= reader.view
     }
 
     // A foreign cell of the key that has the other number. Most cells have another key, and are asked no more
     pub fn foreign_of(self, key: u32, number: u32, other: u32) -> bool
-        ensures { λ r. ⌜ r ≡ foreignOf key number other self ⌝ }
+        ensures { result ≡ foreign_of key number other self }
     {
         self.of_key(key) && self.foreign(number) & (self.number == other)
     }
 
     // The transaction number, or the first word
     pub fn part(self, number: bool) -> u32
-        ensures { λ r. ⌜ r ≡ partOf number self ⌝ }
+        ensures { result ≡ part_of number self }
     {
         if number { self.number } else { self.word }
     }
 
     // A key's new cell, uncommitted. A key is a byte: 0 to 255
     pub fn draft(key: u8, value: u32, number: u32) -> Cell
-        ensures { λ r. ⌜ r ≡ draft key value number ⌝ }
+        ensures { result ≡ draft key value number }
     {
         Cell {
             word: key as u32 + 1,
@@ -138,7 +139,7 @@ impl Cell {
 
     // The cell takes the value
     pub fn valued(self, value: u32) -> Cell
-        ensures { λ r. ⌜ r ≡ valued value self ⌝ }
+        ensures { result ≡ valued value self }
     {
         Cell {
             word: self.word,
@@ -150,7 +151,7 @@ impl Cell {
 
     // The cell takes the commit number
     fn sealed(self, commit: u32) -> Cell
-        ensures { λ r. ⌜ r ≡ sealed commit self ⌝ }
+        ensures { result ≡ sealed commit self }
     {
         Cell {
             word: self.word,
@@ -162,7 +163,7 @@ impl Cell {
 
     // An own cell takes the commit number, or becomes four zeros
     pub fn ended(self, number: u32, kept: bool, commit: u32) -> Cell
-        ensures { λ r. ⌜ r ≡ ended number kept commit self ⌝ }
+        ensures { result ≡ ended number kept commit self }
     {
         if !self.own(number) {
             self
@@ -176,14 +177,14 @@ impl Cell {
 
 // How many whole cells the words are
 pub fn count(cells: &[u32]) -> usize
-    ensures { λ r. ⌜ r ≡ countOf (length (now (cells .entry))) ⌝ }
+    ensures { result ≡ count_of (length cells.now) }
 {
     cells.len() / Cell::WORDS
 }
 
 // Whether a number of words is 1 to so many whole cells
 pub fn whole(words: usize, most: usize) -> bool
-    ensures { λ r. ⌜ r ≡ wholeCells most words ⌝ }
+    ensures { result ≡ whole_cells most words }
 {
     let n = words / Cell::WORDS;
     (words % Cell::WORDS == 0) & (1 <= n) & (n <= most)
@@ -191,7 +192,7 @@ pub fn whole(words: usize, most: usize) -> bool
 
 // The cell of a number; four zeros for a number that no cell has
 pub fn cell_at(cells: &[u32], i: usize) -> Cell
-    ensures { λ r. ⌜ r ≡ getD (cellsOf (now (cells .entry))) i noCell ⌝ }
+    ensures { result ≡ get_or (cells_of cells.now) i no_cell }
 {
     if count(cells) <= i {
         return Cell::none();
@@ -207,7 +208,7 @@ pub fn cell_at(cells: &[u32], i: usize) -> Cell
 
 // One cell is written whole; for a number that no cell has every word stays
 pub fn put_cell(cells: &mut [u32], i: usize, c: Cell)
-    ensures { λ r. ⌜ now (cells .exit) ≡ withCells (now (cells .entry)) (set (cellsOf (now (cells .entry))) i c) ⌝ }
+    ensures { cells.new ≡ with_cells cells.old (set (cells_of cells.old) i c) }
 {
     if count(cells) <= i {
         return;

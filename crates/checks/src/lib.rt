@@ -1,9 +1,9 @@
 // The checks before a step: what they look at, and the order in which they are asked.
+ghost use Rattle.std.specs.Prelude.{◌≡◌};
+ghost use Rattle.checks.specs.Check.{is_start, needs_open, needs_unspoiled, first_of, rows_of, check_of, facts_of};
+
 use places::Place;
-use records::Answer;
-use records::Call;
-ghost use mathlib.Core.Path.{_≡_};
-ghost use Rattle·checks·specs.specs.Check.{isStart, needsOpen, needsUnspoiled, firstOf, rowsOf, checkOf, factsOf};
+use records::{Answer, Call};
 
 // The start count is at most 4,000,000,000.
 pub const STARTS: u32 = 4_000_000_000;
@@ -12,6 +12,7 @@ pub const STARTS: u32 = 4_000_000_000;
 const CHECKS: usize = 8;
 
 // What the checks look at: the board, the call, and the state of its place.
+#[derive(Drop)]
 pub struct Facts {
     pub shaped: bool,
     pub starts: u32,
@@ -26,12 +27,13 @@ pub struct Facts {
 }
 
 // A refusal, and whether what it is given for holds.
+#[derive(Drop)]
 pub struct Check(pub Answer, pub bool);
 
 impl Facts {
     // What the checks look at.
     pub fn of(shaped: bool, p: Place, starts: u32, call: Call) -> Facts
-        ensures { λ r. ⌜ r ≡ factsOf shaped (p .state) starts call ⌝ }
+        ensures { result ≡ facts_of shaped p.state starts call }
     {
         let place = records::place_of(call) as usize;
         Facts {
@@ -50,7 +52,7 @@ impl Facts {
 
     // The checks, in the order in which they are asked: the first refusal, or OK.
     pub fn check(self) -> Answer
-        ensures { λ r. ⌜ r ≡ checkOf self ⌝ }
+        ensures { result ≡ check_of self }
     {
         first_of([
             Check(Answer::Board, !self.shaped),
@@ -67,7 +69,7 @@ impl Facts {
 
 // The refusal of the first check that holds, or OK.
 fn first_of(checks: [Check; CHECKS]) -> Answer
-    ensures { λ r. ⌜ r ≡ firstOf (rowsOf checks) (Answer.Ok 0) ⌝ }
+    ensures { result ≡ first_of (rows_of checks) (Answer.Ok 0) }
 {
     let mut i = 0;
     while i < CHECKS {
@@ -82,7 +84,7 @@ fn first_of(checks: [Check; CHECKS]) -> Answer
 
 // A start.
 fn is_start(call: Call) -> bool
-    ensures { λ r. ⌜ r ≡ isStart call ⌝ }
+    ensures { result ≡ is_start call }
 {
     match call {
         Call::Start { place: _ } => true,
@@ -100,7 +102,7 @@ fn is_start(call: Call) -> bool
 
 // Read, update or prepare.
 fn needs_open(call: Call) -> bool
-    ensures { λ r. ⌜ r ≡ needsOpen call ⌝ }
+    ensures { result ≡ needs_open call }
 {
     match call {
         Call::Start { place: _ } => false,
@@ -118,7 +120,7 @@ fn needs_open(call: Call) -> bool
 
 // Read, update, prepare or commit.
 fn needs_unspoiled(call: Call) -> bool
-    ensures { λ r. ⌜ r ≡ needsUnspoiled call ⌝ }
+    ensures { result ≡ needs_unspoiled call }
 {
     match call {
         Call::Start { place: _ } => false,

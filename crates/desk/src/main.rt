@@ -1,13 +1,13 @@
 // The desk: reads call records from standard input to the end, and writes an answer to each to standard output.
+ghost use Rattle.std.specs.Prelude.{◌≡◌, take};
+ghost use Rattle.turns.specs.Desk.{desk_words};
+ghost use Rattle.desk.specs.Loop.{Ran};
+
 use turns::Desk;
-ghost use mathlib.Core.Path.{_≡_};
-ghost use lib.ListN.{take};
-ghost use Rattle·turns.specs.Desk.{deskWords};
-ghost use Rattle·desk·specs.specs.Loop.{Ran};
 
 // Reads once, behind the bytes that are left, and says how many bytes came: none at the end of the input.
 fn receive(bytes: &mut [u8], left: usize) -> usize
-    ensures { λ r. ⌜ take left (now (bytes .exit)) ≡ take left (now (bytes .entry)) ⌝ }
+    ensures { take left bytes.new ≡ take left bytes.old }
 {
     if bytes.len() <= left {
         return 0;
@@ -32,8 +32,8 @@ fn run(
     bytes: &mut [u8; Desk::INPUT],
     answers: &mut [u8; Desk::OUTPUT],
 )
-    requires { ⌜ now cells ≡ deskWords ⌝ }
-    ensures { λ r. ⌜ Ran (now (bytes .entry)) (now (answers .entry)) (now (cells .exit)) (now (bytes .exit)) (now (answers .exit)) ⌝ }
+    requires { cells.old ≡ desk_words }
+    ensures { Ran bytes.old answers.old cells.new bytes.new answers.new }
 {
     let mut desk = Desk::fresh();
     let mut turns = u64::MAX;

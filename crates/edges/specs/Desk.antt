@@ -1,11 +1,9 @@
 -- The desk program: its whole output for inputs at the edges.
 -- Assumes nothing.
-use mathlib.Core.Path.{_≡_}
-use Prim.Native.Nat.{ℕ}
-use mathlib.Core.List.{List, [], _∷_, _++_}
-use Rattle·steps.specs.Store.{lent}
-use Rattle·turns.specs.Desk.{answersTo, deskOf}
-use Rattle·edges·specs.specs.Names.{Agree, counts, zeros, eight, ten}
+use Rattle.std.specs.Prelude.{◌≡◌, ℕ, List, [], ◌∷◌, ◌++◌}
+use Rattle.steps.specs.Store.{lent}
+use Rattle.turns.specs.Desk.{answers_to, desk_of}
+use Rattle.edges.specs.Names.{Agree, counts, zeros, eight, ten}
 
 -- the whole input, and the whole output
 pub record Session : Type 0 where
@@ -13,8 +11,8 @@ pub record Session : Type 0 where
   pub output : List ℕ
 
 -- start at place 0 (transaction 1), key 7 becomes 12, commit number 1
-abbrev pub wholeExample : Session
-wholeExample =
+abbrev pub whole_example : Session
+whole_example =
     record {
       input =
           ten 0x43 0x4C 0x01 0x00 0x00 0x00 0x00 0x00 0x00 0x00
@@ -27,32 +25,32 @@ wholeExample =
     }
 
 -- empty input writes nothing
-abbrev pub emptyInput : Session
-emptyInput = record { input = []; output = [] }
+abbrev pub empty_input : Session
+empty_input = record { input = []; output = [] }
 
 -- a cut record: RECORD with place 0 and value 0
-abbrev pub oneByte : Session
-oneByte = record { input = 0x43 ∷ []; output = eight 0x41 0x4E 0x0C 0x00 0x00 0x00 0x00 0x00 }
+abbrev pub one_byte : Session
+one_byte = record { input = 0x43 ∷ []; output = eight 0x41 0x4E 0x0C 0x00 0x00 0x00 0x00 0x00 }
 
 -- nine bytes of a start at place 5
-abbrev pub nineBytes : Session
-nineBytes =
+abbrev pub nine_bytes : Session
+nine_bytes =
     record {
       input = 0x43 ∷ 0x4C ∷ 0x01 ∷ 0x05 ∷ 0x00 ∷ 0x00 ∷ 0x00 ∷ 0x00 ∷ 0x00 ∷ [];
       output = eight 0x41 0x4E 0x0C 0x00 0x00 0x00 0x00 0x00;
     }
 
 -- bytes that are no call: a kind 7 at place 5
-abbrev pub kindSeven : Session
-kindSeven =
+abbrev pub kind_seven : Session
+kind_seven =
     record {
       input = ten 0x43 0x4C 0x07 0x05 0x00 0x00 0x00 0x00 0x00 0x00;
       output = eight 0x41 0x4E 0x0C 0x00 0x00 0x00 0x00 0x00;
     }
 
 -- bytes that are no call behind a start at place 5; it stops there, and the start at place 6 is not answered
-abbrev pub stopsAtNoCall : Session
-stopsAtNoCall =
+abbrev pub stops_at_no_call : Session
+stops_at_no_call =
     record {
       input =
           ten 0x43 0x4C 0x01 0x05 0x00 0x00 0x00 0x00 0x00 0x00
@@ -62,8 +60,8 @@ stopsAtNoCall =
     }
 
 -- a cut record behind a start at place 5
-abbrev pub cutAtTheEnd : Session
-cutAtTheEnd =
+abbrev pub cut_at_the_end : Session
+cut_at_the_end =
     record {
       input = ten 0x43 0x4C 0x01 0x05 0x00 0x00 0x00 0x00 0x00 0x00 ++ 0x43 ∷ 0x4C ∷ [];
       output = eight 0x41 0x4E 0x00 0x05 0x01 0x00 0x00 0x00 ++ eight 0x41 0x4E 0x0C 0x00 0x00 0x00 0x00 0x00;
@@ -71,8 +69,8 @@ cutAtTheEnd =
 
 -- one answer each, with the call's place byte, refusals too: a read at place 5 is IDLE, a start at place 255 is PLACE, a start at 15 is OK,
 -- and its read of key 256 is KEY
-abbrev pub placeBytes : Session
-placeBytes =
+abbrev pub place_bytes : Session
+place_bytes =
     record {
       input =
           ten 0x43 0x4C 0x02 0x05 0x07 0x00 0x00 0x00 0x00 0x00
@@ -89,12 +87,12 @@ placeBytes =
 -- the list
 abbrev pub sessions : List Session
 sessions =
-    wholeExample ∷ emptyInput ∷ oneByte ∷ nineBytes ∷ kindSeven ∷ stopsAtNoCall ∷ cutAtTheEnd ∷ placeBytes ∷ []
+    whole_example ∷ empty_input ∷ one_byte ∷ nine_bytes ∷ kind_seven ∷ stops_at_no_call ∷ cut_at_the_end ∷ place_bytes ∷ []
 
 -- for every input the desk writes just the output
 abbrev pub DeskWrites : Type 0
-DeskWrites = Agree (λ (r : Session). deskOf (r .input)) (λ (r : Session). r .output) sessions
+DeskWrites = Agree (λ (r : Session). desk_of r.input) (λ (r : Session). r.output) sessions
 
 -- it starts a fresh board of 1,024 cells: every place is idle with number and view 0, both counts are 0, and so is every word
 abbrev pub DeskStarts : Type 0
-DeskStarts = (input : List ℕ) → deskOf input ≡ answersTo (lent (counts 0 0 []) (zeros 4_096)) input
+DeskStarts = (input : List ℕ) → desk_of input ≡ answers_to (lent (counts 0 0 []) (zeros 4_096)) input

@@ -1,12 +1,9 @@
 -- How the rows are written: document 01's numbers for what comes back, boards, lent words and bytes, all of them by literals.
 -- Assumes nothing.
-use mathlib.Core.Path.{_≡_}
-use Prim.Native.Nat.{ℕ}
-use mathlib.Core.List.{List, [], _∷_, _++_, map}
-use lib.ListN.{take, replicate}
-use Rattle·places.specs.declared.State.{State}
-use Rattle·places.specs.declared.Place.{Place}
-use Rattle·steps.specs.declared.Board.{Board}
+use Rattle.std.specs.Prelude.{◌≡◌, ℕ, List, [], ◌∷◌, ◌++◌, map, take, replicate}
+use Rattle.places.specs.declared.State.{State}
+use Rattle.places.specs.declared.Place.{Place}
+use Rattle.steps.specs.declared.Board.{Board}
 
 -- for every row of a list, what the definitions come to is what document 01 says
 abbrev pub Agree : {R X : Type 0} → (R → X) → (R → X) → List R → Type 0

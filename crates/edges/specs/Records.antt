@@ -1,25 +1,23 @@
 -- Records: one of each kind, as bytes and back, and bytes that are next to one and are none.
 -- Assumes nothing.
-use Prim.Native.Nat.{ℕ}
-use mathlib.Core.List.{List, [], _∷_, _++_}
-use lib.ListN.{replicate}
-use Rattle·records.specs.declared.Call.{Call}
-use Rattle·records.specs.declared.CallRead.{CallRead}
-use Rattle·records.specs.declared.Answer.{Answer}
-use Rattle·records.specs.declared.AnswerRead.{AnswerRead}
-use Rattle·records.specs.declared.Reply.{Reply}
-use Rattle·records.specs.Format.{Written, callAt, answerAt, writtenCall, writtenAnswer}
-use Rattle·edges·specs.specs.Names.{Agree, RECORD, zeros, eight, ten}
+use Rattle.std.specs.Prelude.{ℕ, List, [], ◌∷◌, ◌++◌, replicate}
+use Rattle.records.specs.declared.Call.{Call}
+use Rattle.records.specs.declared.CallRead.{CallRead}
+use Rattle.records.specs.declared.Answer.{Answer}
+use Rattle.records.specs.declared.AnswerRead.{AnswerRead}
+use Rattle.records.specs.declared.Reply.{Reply}
+use Rattle.records.specs.Format.{Written, call_at, answer_at, written_call, written_answer}
+use Rattle.edges.specs.Names.{Agree, RECORD, zeros, eight, ten}
 
-infix 70 _is_
+infix 70 ◌is◌
 -- a call, or an answer with its place, and its record
 pub record Has (A : Type 0) : Type 0 where
   pub what : A
   pub bytes : List ℕ
 
 -- its record is this
-abbrev pub _is_ : {A : Type 0} → A → List ℕ → Has A
-_is_ a bs = record { what = a; bytes = bs }
+abbrev pub ◌is◌ : {A : Type 0} → A → List ℕ → Has A
+◌is◌ a bs = record { what = a; bytes = bs }
 
 -- bytes, an offset, and what is read there
 pub record Reads (R : Type 0) : Type 0 where
@@ -39,12 +37,12 @@ pub record Writes (A : Type 0) : Type 0 where
   pub gives : Written
 
 -- OK: done, with value 0, and these are the bytes afterwards
-abbrev pub wroteAll : List ℕ → Written
-wroteAll after = record { number = 0; value = 0; bytes = after }
+abbrev pub wrote_all : List ℕ → Written
+wrote_all after = record { number = 0; value = 0; bytes = after }
 
 -- writing there is OK, and leaves these bytes
 abbrev pub writes : {A : Type 0} → List ℕ → ℕ → A → List ℕ → Writes A
-writes bs at a after = record { bytes = bs; at = at; what = a; gives = wroteAll after }
+writes bs at a after = record { bytes = bs; at = at; what = a; gives = wrote_all after }
 
 -- writing there is RECORD, and no byte changes
 abbrev pub refuses : {A : Type 0} → List ℕ → ℕ → A → Writes A
@@ -53,8 +51,8 @@ refuses bs at a = record { bytes = bs; at = at; what = a; gives = record { numbe
 -- CALLS
 
 -- Call, 10 bytes: 43 4C, kind (1 start, 2 read, 3 update, 4 prepare, 5 commit, 6 rollback), place byte, key in two bytes, value in four
-abbrev pub callRows : List (Has Call)
-callRows =
+abbrev pub call_rows : List (Has Call)
+call_rows =
     Call.Start 1 is ten 0x43 0x4C 0x01 0x01 0x00 0x00 0x00 0x00 0x00 0x00
     ∷ Call.Read 2 7 is ten 0x43 0x4C 0x02 0x02 0x07 0x00 0x00 0x00 0x00 0x00
     ∷ Call.Update 3 7 12 is ten 0x43 0x4C 0x03 0x03 0x07 0x00 0x0C 0x00 0x00 0x00
@@ -64,15 +62,15 @@ callRows =
     -- numbers are little-endian
     ∷ Call.Update 0 0x0201 0x06050403 is ten 0x43 0x4C 0x03 0x00 0x01 0x02 0x03 0x04 0x05 0x06
     ∷ Call.Read 0 0x0201 is ten 0x43 0x4C 0x02 0x00 0x01 0x02 0x00 0x00 0x00 0x00
-    -- places and keys out of range are well-formed here
+    -- places and keys out of range are well_formed here
     ∷ Call.Start 16 is ten 0x43 0x4C 0x01 0x10 0x00 0x00 0x00 0x00 0x00 0x00
     ∷ Call.Read 255 256 is ten 0x43 0x4C 0x02 0xFF 0x00 0x01 0x00 0x00 0x00 0x00
     ∷ Call.Update 255 65_535 4_294_967_295 is ten 0x43 0x4C 0x03 0xFF 0xFF 0xFF 0xFF 0xFF 0xFF 0xFF
     ∷ []
 
 -- bytes that are no call record
-abbrev pub noCalls : List (List ℕ)
-noCalls =
+abbrev pub no_calls : List (List ℕ)
+no_calls =
     -- another mark, an answer's too
     ten 0x42 0x4C 0x01 0x00 0x00 0x00 0x00 0x00 0x00 0x00
     ∷ ten 0x43 0x4D 0x01 0x00 0x00 0x00 0x00 0x00 0x00 0x00
@@ -102,31 +100,31 @@ noCalls =
     ∷ []
 
 -- a start at place 1 and a commit at place 5, with a byte before and a byte behind them
-abbrev pub startAndCommit : List ℕ
-startAndCommit =
+abbrev pub start_and_commit : List ℕ
+start_and_commit =
     (0xEE ∷ [])
     ++ ten 0x43 0x4C 0x01 0x01 0x00 0x00 0x00 0x00 0x00 0x00
     ++ ten 0x43 0x4C 0x05 0x05 0x00 0x00 0x00 0x00 0x00 0x00
     ++ (0xEE ∷ [])
 
 -- reading takes the record at a given offset in lent bytes; an offset past the end is RECORD
-abbrev pub callReads : List (Reads CallRead)
-callReads =
-    reads startAndCommit 0 CallRead.Record
-    ∷ reads startAndCommit 1 (CallRead.Good (Call.Start 1))
-    ∷ reads startAndCommit 2 CallRead.Record
-    ∷ reads startAndCommit 11 (CallRead.Good (Call.Commit 5))
-    ∷ reads startAndCommit 12 CallRead.Record
-    ∷ reads startAndCommit 13 CallRead.Record
-    ∷ reads startAndCommit 21 CallRead.Record
-    ∷ reads startAndCommit 22 CallRead.Record
-    ∷ reads startAndCommit 23 CallRead.Record
-    ∷ reads startAndCommit 18_446_744_073_709_551_615 CallRead.Record
+abbrev pub call_reads : List (Reads CallRead)
+call_reads =
+    reads start_and_commit 0 CallRead.Record
+    ∷ reads start_and_commit 1 (CallRead.Good (Call.Start 1))
+    ∷ reads start_and_commit 2 CallRead.Record
+    ∷ reads start_and_commit 11 (CallRead.Good (Call.Commit 5))
+    ∷ reads start_and_commit 12 CallRead.Record
+    ∷ reads start_and_commit 13 CallRead.Record
+    ∷ reads start_and_commit 21 CallRead.Record
+    ∷ reads start_and_commit 22 CallRead.Record
+    ∷ reads start_and_commit 23 CallRead.Record
+    ∷ reads start_and_commit 18_446_744_073_709_551_615 CallRead.Record
     ∷ []
 
 -- writing puts it from a given offset and changes no other byte; on RECORD no byte changes
-abbrev pub callWrites : List (Writes Call)
-callWrites =
+abbrev pub call_writes : List (Writes Call)
+call_writes =
     writes (replicate 12 0xEE) 0 (Call.Start 1) (ten 0x43 0x4C 0x01 0x01 0x00 0x00 0x00 0x00 0x00 0x00 ++ 0xEE ∷ 0xEE ∷ [])
     ∷ writes (replicate 12 0xEE) 2 (Call.Start 1) (0xEE ∷ 0xEE ∷ ten 0x43 0x4C 0x01 0x01 0x00 0x00 0x00 0x00 0x00 0x00)
     -- fewer than 10 bytes to write one in
@@ -149,23 +147,23 @@ callWrites =
 
 -- every call, written into ten bytes, gives its record
 abbrev pub CallsWritten : Type 0
-CallsWritten = Agree (λ (r : Has Call). writtenCall (zeros 10) 0 (r .what)) (λ (r : Has Call). wroteAll (r .bytes)) callRows
+CallsWritten = Agree (λ (r : Has Call). written_call (zeros 10) 0 r.what) (λ (r : Has Call). wrote_all r.bytes) call_rows
 
 -- and every record, read, gives its call
 abbrev pub CallsRead : Type 0
-CallsRead = Agree (λ (r : Has Call). callAt (r .bytes) 0) (λ (r : Has Call). CallRead.Good (r .what)) callRows
+CallsRead = Agree (λ (r : Has Call). call_at r.bytes 0) (λ (r : Has Call). CallRead.Good r.what) call_rows
 
 -- what is no call record is RECORD
 abbrev pub NoCallsRead : Type 0
-NoCallsRead = Agree (λ bs. callAt bs 0) (λ bs. CallRead.Record) noCalls
+NoCallsRead = Agree (λ bs. call_at bs 0) (λ bs. CallRead.Record) no_calls
 
 -- at every offset
 abbrev pub CallsReadAt : Type 0
-CallsReadAt = Agree (λ (r : Reads CallRead). callAt (r .bytes) (r .at)) (λ (r : Reads CallRead). r .read) callReads
+CallsReadAt = Agree (λ (r : Reads CallRead). call_at r.bytes r.at) (λ (r : Reads CallRead). r.read) call_reads
 
 -- and writing at every offset gives what is said
 abbrev pub CallsWrittenAt : Type 0
-CallsWrittenAt = Agree (λ (r : Writes Call). writtenCall (r .bytes) (r .at) (r .what)) (λ (r : Writes Call). r .gives) callWrites
+CallsWrittenAt = Agree (λ (r : Writes Call). written_call r.bytes r.at r.what) (λ (r : Writes Call). r.gives) call_writes
 
 -- ANSWERS
 
@@ -174,8 +172,8 @@ abbrev pub reply : ℕ → Answer → Reply
 reply place a = record { place = place; answer = a }
 
 -- Answer, 8 bytes: 41 4E, refusal number 0 to 12, place byte, value in four. With a number from 1 to 12 the value is zero.
-abbrev pub answerRows : List (Has Reply)
-answerRows =
+abbrev pub answer_rows : List (Has Reply)
+answer_rows =
     reply 0 (Answer.Ok 12) is eight 0x41 0x4E 0x00 0x00 0x0C 0x00 0x00 0x00
     ∷ reply 1 Answer.Board is eight 0x41 0x4E 0x01 0x01 0x00 0x00 0x00 0x00
     ∷ reply 16 Answer.Place is eight 0x41 0x4E 0x02 0x10 0x00 0x00 0x00 0x00
@@ -197,8 +195,8 @@ answerRows =
     ∷ []
 
 -- bytes that are no answer record
-abbrev pub noAnswers : List (List ℕ)
-noAnswers =
+abbrev pub no_answers : List (List ℕ)
+no_answers =
     -- another mark, a call's too
     eight 0x42 0x4E 0x00 0x00 0x00 0x00 0x00 0x00
     ∷ eight 0x41 0x4D 0x00 0x00 0x00 0x00 0x00 0x00
@@ -227,31 +225,31 @@ noAnswers =
     ∷ []
 
 -- OK with value 1 at place 2 and BUSY at place 3, with a byte before and a byte behind them
-abbrev pub okAndBusy : List ℕ
-okAndBusy =
+abbrev pub ok_and_busy : List ℕ
+ok_and_busy =
     (0xEE ∷ [])
     ++ eight 0x41 0x4E 0x00 0x02 0x01 0x00 0x00 0x00
     ++ eight 0x41 0x4E 0x03 0x03 0x00 0x00 0x00 0x00
     ++ (0xEE ∷ [])
 
 -- reading takes the record at a given offset in lent bytes; an offset past the end is RECORD
-abbrev pub answerReads : List (Reads AnswerRead)
-answerReads =
-    reads okAndBusy 0 AnswerRead.Record
-    ∷ reads okAndBusy 1 (AnswerRead.Good (reply 2 (Answer.Ok 1)))
-    ∷ reads okAndBusy 2 AnswerRead.Record
-    ∷ reads okAndBusy 9 (AnswerRead.Good (reply 3 Answer.Busy))
-    ∷ reads okAndBusy 10 AnswerRead.Record
-    ∷ reads okAndBusy 11 AnswerRead.Record
-    ∷ reads okAndBusy 17 AnswerRead.Record
-    ∷ reads okAndBusy 18 AnswerRead.Record
-    ∷ reads okAndBusy 19 AnswerRead.Record
-    ∷ reads okAndBusy 18_446_744_073_709_551_615 AnswerRead.Record
+abbrev pub answer_reads : List (Reads AnswerRead)
+answer_reads =
+    reads ok_and_busy 0 AnswerRead.Record
+    ∷ reads ok_and_busy 1 (AnswerRead.Good (reply 2 (Answer.Ok 1)))
+    ∷ reads ok_and_busy 2 AnswerRead.Record
+    ∷ reads ok_and_busy 9 (AnswerRead.Good (reply 3 Answer.Busy))
+    ∷ reads ok_and_busy 10 AnswerRead.Record
+    ∷ reads ok_and_busy 11 AnswerRead.Record
+    ∷ reads ok_and_busy 17 AnswerRead.Record
+    ∷ reads ok_and_busy 18 AnswerRead.Record
+    ∷ reads ok_and_busy 19 AnswerRead.Record
+    ∷ reads ok_and_busy 18_446_744_073_709_551_615 AnswerRead.Record
     ∷ []
 
 -- writing puts it from a given offset and changes no other byte; on RECORD no byte changes
-abbrev pub answerWrites : List (Writes Reply)
-answerWrites =
+abbrev pub answer_writes : List (Writes Reply)
+answer_writes =
     writes (replicate 10 0xEE) 0 (reply 2 (Answer.Ok 1)) (eight 0x41 0x4E 0x00 0x02 0x01 0x00 0x00 0x00 ++ 0xEE ∷ 0xEE ∷ [])
     ∷ writes (replicate 10 0xEE) 2 (reply 3 Answer.Busy) (0xEE ∷ 0xEE ∷ eight 0x41 0x4E 0x03 0x03 0x00 0x00 0x00 0x00)
     -- fewer than 8 bytes to write one in
@@ -268,20 +266,20 @@ answerWrites =
 
 -- every answer, written into eight bytes, gives its record
 abbrev pub AnswersWritten : Type 0
-AnswersWritten = Agree (λ (r : Has Reply). writtenAnswer (zeros 8) 0 (r .what)) (λ (r : Has Reply). wroteAll (r .bytes)) answerRows
+AnswersWritten = Agree (λ (r : Has Reply). written_answer (zeros 8) 0 r.what) (λ (r : Has Reply). wrote_all r.bytes) answer_rows
 
 -- and every record, read, gives its answer
 abbrev pub AnswersRead : Type 0
-AnswersRead = Agree (λ (r : Has Reply). answerAt (r .bytes) 0) (λ (r : Has Reply). AnswerRead.Good (r .what)) answerRows
+AnswersRead = Agree (λ (r : Has Reply). answer_at r.bytes 0) (λ (r : Has Reply). AnswerRead.Good r.what) answer_rows
 
 -- what is no answer record is RECORD
 abbrev pub NoAnswersRead : Type 0
-NoAnswersRead = Agree (λ bs. answerAt bs 0) (λ bs. AnswerRead.Record) noAnswers
+NoAnswersRead = Agree (λ bs. answer_at bs 0) (λ bs. AnswerRead.Record) no_answers
 
 -- at every offset
 abbrev pub AnswersReadAt : Type 0
-AnswersReadAt = Agree (λ (r : Reads AnswerRead). answerAt (r .bytes) (r .at)) (λ (r : Reads AnswerRead). r .read) answerReads
+AnswersReadAt = Agree (λ (r : Reads AnswerRead). answer_at r.bytes r.at) (λ (r : Reads AnswerRead). r.read) answer_reads
 
 -- and writing at every offset gives what is said
 abbrev pub AnswersWrittenAt : Type 0
-AnswersWrittenAt = Agree (λ (r : Writes Reply). writtenAnswer (r .bytes) (r .at) (r .what)) (λ (r : Writes Reply). r .gives) answerWrites
+AnswersWrittenAt = Agree (λ (r : Writes Reply). written_answer r.bytes r.at r.what) (λ (r : Writes Reply). r.gives) answer_writes

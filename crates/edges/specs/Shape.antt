@@ -1,15 +1,11 @@
 -- Shape: a board just inside and a board just outside of each condition.
 -- Assumes nothing.
-use Prim.Native.Nat.{ℕ}
-use mathlib.Core.Bool.{Bool, true, false, not}
-use mathlib.Core.List.{List, [], _∷_, _++_, map}
-use lib.Dec.{eqb}
-use lib.ListN.{replicate}
-use Rattle·records.specs.declared.Call.{Call}
-use Rattle·steps.specs.declared.Board.{Board}
-use Rattle·steps.specs.Store.{lent}
-use Rattle·steps.specs.Step.{step}
-use Rattle·edges·specs.specs.Names.{Agree, BOARD, opened, spoiled, prepared, idle, counts, zeros}
+use Rattle.std.specs.Prelude.{ℕ, Bool, true, false, not, List, [], ◌∷◌, ◌++◌, map, eqb, replicate}
+use Rattle.records.specs.declared.Call.{Call}
+use Rattle.steps.specs.declared.Board.{Board}
+use Rattle.steps.specs.Store.{lent}
+use Rattle.steps.specs.Step.{step}
+use Rattle.edges.specs.Names.{Agree, BOARD, opened, spoiled, prepared, idle, counts, zeros}
 
 -- a record, the lent words, and whether document 01 says that the board is in shape
 pub record Shaped : Type 0 where
@@ -26,16 +22,16 @@ abbrev pub outside : Board → List ℕ → Shaped
 outside b ws = record { board = b; words = ws; said = false }
 
 -- one call of each kind
-abbrev pub sixCalls : List Call
-sixCalls = Call.Start 9 ∷ Call.Read 9 7 ∷ Call.Update 9 7 12 ∷ Call.Prepare 9 ∷ Call.Commit 9 ∷ Call.Rollback 9 ∷ []
+abbrev pub six_calls : List Call
+six_calls = Call.Start 9 ∷ Call.Read 9 7 ∷ Call.Update 9 7 12 ∷ Call.Prepare 9 ∷ Call.Commit 9 ∷ Call.Rollback 9 ∷ []
 
 -- whether each of them is refused with BOARD
-abbrev pub refusedBoard : Shaped → List Bool
-refusedBoard r = map (λ call. eqb (step (lent (r .board) (r .words)) call .said .number) BOARD) sixCalls
+abbrev pub refused_board : Shaped → List Bool
+refused_board r = map (λ call. eqb (step (lent r.board r.words) call).said.number BOARD) six_calls
 
 -- on a board in shape none of them is, on any other all are
-abbrev pub saidBoard : Shaped → List Bool
-saidBoard r = replicate 6 (not (r .said))
+abbrev pub said_board : Shaped → List Bool
+said_board r = replicate 6 (not r.said)
 
 -- the length is a multiple of 4, from 4 to 4,096 words
 abbrev pub lengths : List Shaped
@@ -57,8 +53,8 @@ lengths =
     ∷ []
 
 -- the start count is at most 4,000,000,000
-abbrev pub startCounts : List Shaped
-startCounts =
+abbrev pub start_counts : List Shaped
+start_counts =
     inside (counts 3_000_000_001 0 []) (zeros 16)
     ∷ inside (counts 4_000_000_000 0 []) (zeros 16)
     ∷ outside (counts 4_000_000_001 0 []) (zeros 16)
@@ -91,8 +87,8 @@ sums =
     ∷ []
 
 -- at the places not idle transaction numbers are distinct
-abbrev pub distinctNumbers : List Shaped
-distinctNumbers =
+abbrev pub distinct_numbers : List Shaped
+distinct_numbers =
     inside (counts 5 0 (opened 3 0 ∷ opened 4 0 ∷ [])) (zeros 16)
     ∷ outside (counts 5 0 (opened 3 0 ∷ opened 3 0 ∷ [])) (zeros 16)
     -- in whatever state
@@ -147,9 +143,9 @@ anything =
     ∷ []
 
 -- THE LIST
-abbrev pub shapeRows : List Shaped
-shapeRows = lengths ++ startCounts ++ sums ++ distinctNumbers ++ numbers ++ views ++ anything
+abbrev pub shape_rows : List Shaped
+shape_rows = lengths ++ start_counts ++ sums ++ distinct_numbers ++ numbers ++ views ++ anything
 
 -- every board is in shape, or not, as said
 abbrev pub ShapesHold : Type 0
-ShapesHold = Agree refusedBoard saidBoard shapeRows
+ShapesHold = Agree refused_board said_board shape_rows

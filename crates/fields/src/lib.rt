@@ -1,15 +1,11 @@
 // What byte formats are made of: numbers of so many bytes, little-endian, read and written in lent bytes. Nothing here knows a format,
 // and nothing asks for room: past the end every byte reads as 0, and where there is no room for all no byte is put.
-ghost use mathlib.Core.Bool.{cond};
-ghost use mathlib.Core.Path.{_≡_};
-ghost use Prim.Native.Nat.{_+_, _%_, _<_};
-ghost use lib.Dec.{leb};
-ghost use lib.ListN.{length, getD, take, drop};
-ghost use Rattle·fields·specs.specs.Bytes.{bytesOf, numberIn, sameBytes, putAt};
+ghost use Rattle.std.specs.Prelude.{cond, ◌≡◌, ◌+◌, ◌%◌, ◌<◌, leb, length, get_or, take, drop};
+ghost use Rattle.fields.specs.Bytes.{bytes_of, number_in, same_bytes, put_at};
 
 // Whether there are so many bytes from an offset on.
 pub fn room(len: usize, at: usize, bytes: usize) -> bool
-    ensures { λ r. ⌜ r ≡ leb (at + bytes) len ⌝ }
+    ensures { result ≡ leb (at + bytes) len }
 {
     if len < at {
         return false;
@@ -19,7 +15,7 @@ pub fn room(len: usize, at: usize, bytes: usize) -> bool
 
 // So many bytes from an offset on, or as many of them as there are.
 pub fn part(s: &[u8], at: usize, bytes: usize) -> &[u8]
-    ensures { λ r. ⌜ now r ≡ take bytes (drop at (now (s .entry))) ⌝ }
+    ensures { result.now ≡ take bytes (drop at s.now) }
 {
     if room(s.len(), at, bytes) {
         &s[at..at + bytes]
@@ -32,14 +28,14 @@ pub fn part(s: &[u8], at: usize, bytes: usize) -> &[u8]
 
 // The byte at an offset.
 pub fn one(s: &[u8], at: usize) -> u32
-    ensures { λ r. ⌜ (r ≡ getD (now (s .entry)) at 0) × (r < 256) ⌝ }
+    ensures { (result ≡ get_or s.now at 0) × (result < 256) }
 {
     if at < s.len() { s[at] as u32 } else { 0 }
 }
 
 // The number in two bytes from an offset.
 pub fn two(s: &[u8], at: usize) -> u32
-    ensures { λ r. ⌜ (r ≡ numberIn (take 2 (drop at (now (s .entry))))) × (r < 65536) ⌝ }
+    ensures { (result ≡ number_in (take 2 (drop at s.now))) × (result < 65536) }
 {
     let bytes = part(s, at, 2);
     let first = one(bytes, 0);
@@ -49,7 +45,7 @@ pub fn two(s: &[u8], at: usize) -> u32
 
 // The number in four bytes from an offset.
 pub fn four(s: &[u8], at: usize) -> u32
-    ensures { λ r. ⌜ r ≡ numberIn (take 4 (drop at (now (s .entry)))) ⌝ }
+    ensures { result ≡ number_in (take 4 (drop at s.now)) }
 {
     let bytes = part(s, at, 4);
     two(bytes, 0) + 65536 * two(bytes, 2)
@@ -57,7 +53,7 @@ pub fn four(s: &[u8], at: usize) -> u32
 
 // Whether bytes are the same.
 pub fn same(a: &[u8], b: &[u8]) -> bool
-    ensures { λ r. ⌜ r ≡ sameBytes (now (a .entry)) (now (b .entry)) ⌝ }
+    ensures { result ≡ same_bytes a.now b.now }
 {
     if a.len() != b.len() {
         return false;
@@ -74,21 +70,21 @@ pub fn same(a: &[u8], b: &[u8]) -> bool
 
 // The lowest byte of a number.
 pub fn low(n: u32) -> u8
-    ensures { λ r. ⌜ r ≡ n % 256 ⌝ }
+    ensures { result ≡ n % 256 }
 {
     (n % 256) as u8
 }
 
 // A number in two bytes.
 pub fn two_bytes(n: u32) -> [u8; 2]
-    ensures { λ r. ⌜ r ≡ bytesOf 2 n ⌝ }
+    ensures { result ≡ bytes_of 2 n }
 {
     [low(n), low(n / 256)]
 }
 
 // A number in four bytes.
 pub fn four_bytes(n: u32) -> [u8; 4]
-    ensures { λ r. ⌜ r ≡ bytesOf 4 n ⌝ }
+    ensures { result ≡ bytes_of 4 n }
 {
     let second = n / 256;
     let third = second / 256;
@@ -97,8 +93,8 @@ pub fn four_bytes(n: u32) -> [u8; 4]
 
 // Puts bytes in the place of the first, if there are as many: whether there were.
 pub fn put(s: &mut [u8], bytes: &[u8]) -> bool
-    ensures { λ r. ⌜ (r ≡ leb (length (now (bytes .entry))) (length (now (s .entry))))
-        × (now (s .exit) ≡ cond r (putAt (now (s .entry)) 0 (now (bytes .entry))) (now (s .entry))) ⌝ }
+    ensures { (result ≡ leb (length bytes.now) (length s.old))
+        × (s.new ≡ cond result (put_at s.old 0 bytes.now) s.old) }
 {
     if s.len() < bytes.len() {
         return false;

@@ -1,10 +1,10 @@
 -- Case splits, and what a search of places finds.
 -- Assumes nothing.
-use mathlib.Core.Path.{_≡_, refl}
-use mathlib.Core.Logic.{_⊎_, inl, inr}
+use mathlib.Core.Path.{◌≡◌, refl}
+use mathlib.Core.Logic.{◌⊎◌, inl, inr}
 use mathlib.Core.Bool.{Bool, true, false}
 use mathlib.Core.Option.{Option, none, some}
-use Prim.Native.Nat.{ℕ, zero, suc, _+_, _≤_, _<_}
+use Prim.Native.Nat.{ℕ, zero, suc, ◌+◌, ◌≤◌, ◌<◌}
 use native.Mathlib.Nat.{not-suc-le-zero}
 use native.Mathlib.Omega.{arith}
 use lib.Dec.{eqb}
@@ -32,8 +32,8 @@ pub none? : (o : Option ℕ) → (o ≡ none) ⊎ ((v : ℕ) × (o ≡ some v))
 none? none = inl refl
 none? (some v) = inr (v, refl)
 
-pub none-some : {A : Type 0} (o : Option ℕ) (v : ℕ) → o ≡ none → o ≡ some v → A
-none-some o v e f = absurd (let z : _≡_ {A = ℕ} 0 1 = cc in omega arith)
+pub none_some : {A : Type 0} (o : Option ℕ) (v : ℕ) → o ≡ none → o ≡ some v → A
+none_some o v e f = absurd (let z : ◌≡◌ {A = ℕ} 0 1 = cc in omega arith)
 
 pub pos : (n : ℕ) → 0 < n → (m : ℕ) × (n ≡ m + 1)
 pos zero h = absurd (not-suc-le-zero h)

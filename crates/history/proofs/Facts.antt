@@ -1,154 +1,154 @@
 -- The rules' tests of a cell, as equations and orders of its words, and back.
 -- Assumes nothing.
-use mathlib.Core.Path.{_≡_, sym, ap, _∙_}
-use mathlib.Core.Logic.{_⊎_, inl, inr}
-use mathlib.Core.Bool.{true, false, not, _&&_, and-assoc}
-use mathlib.Core.List.{List, [], _∷_}
-use Prim.Native.Nat.{ℕ, zero, suc, _+_, _≤_, _<_}
+use mathlib.Core.Path.{◌≡◌, sym, ap, ◌∙◌}
+use mathlib.Core.Logic.{◌⊎◌, inl, inr}
+use mathlib.Core.Bool.{true, false, not, ◌&&◌, and_assoc}
+use mathlib.Core.List.{List, [], ◌∷◌}
+use Prim.Native.Nat.{ℕ, zero, suc, ◌+◌, ◌≤◌, ◌<◌}
 use native.Mathlib.Omega.{arith}
 use lib.Dec.{leb, ltb, eqb}
-use lib.ListN.{length, getD}
-use borrow.Author.Tests.{ltb-true, leb-true, eqb-true, eqb-false, not-true, lt-ltb, le-leb, eq-eqb, ne-eqb}
-use Rattle·cells.specs.declared.Cell.{Cell}
-use Rattle·cells.specs.declared.Reader.{Reader}
-use Rattle·scans.specs.declared.Found.{Found}
-use Rattle·cells.specs.Cells.{noCell, empty, ofKey, committed, own, foreign, admits}
-use Rattle·cells.specs.Rules.{mine, visible, clashes, blocks, newer, between}
-use Rattle·scans.specs.Rules.{hasCell, ownAt}
-use Rattle·scans.proofs.Meaning.{own-found, own-none}
-use Rattle·places.specs.declared.Place.{Place}
-use Rattle·places.specs.Spent.{hasPlace, keepsAt, spent}
-use Rattle·laws.proofs.Tests.{and-both as both, and-left, and-right, clash, or-cases, or-first, or-second}
-use Rattle·history·specs.specs.History.{versionOf}
-use Rattle·history·proofs.proofs.Basics.{cases}
+use lib.ListN.{length, get_or}
+use borrow.Author.Tests.{ltb-true, leb-true, eqb-true, eqb-false, not-true, lt-ltb, le-leb, eq-eqb, ne_eqb}
+use Rattle.cells.specs.declared.Cell.{Cell}
+use Rattle.cells.specs.declared.Reader.{Reader}
+use Rattle.scans.specs.declared.Found.{Found}
+use Rattle.cells.specs.Cells.{no_cell, empty, of_key, committed, own, foreign, admits}
+use Rattle.cells.specs.Rules.{mine, visible, clashes, blocks, newer, between}
+use Rattle.scans.specs.Rules.{has_cell, own_at}
+use Rattle.scans.proofs.Meaning.{own_found, own_none}
+use Rattle.places.specs.declared.Place.{Place}
+use Rattle.places.specs.Spent.{has_place, keeps_at, spent}
+use Rattle.laws.proofs.Tests.{and_both as both, and_left, and_right, clash, or_cases, or_first, or_second}
+use Rattle.history.specs.History.{version_of}
+use Rattle.history.proofs.Basics.{cases}
 
-abbrev pub cellAt : List Cell → ℕ → Cell
-cellAt cs i = getD cs i noCell
+abbrev pub cell_at : List Cell → ℕ → Cell
+cell_at cs i = get_or cs i no_cell
 
 -- the cell carries the unfinished write of transaction t to key k
 pub record Draft (c : Cell) (t k : ℕ) : Type 0 where
-  pub word : c .word ≡ k + 1
-  pub commit : c .commit ≡ 0
-  pub number : c .number ≡ t
+  pub word : c.word ≡ k + 1
+  pub commit : c.commit ≡ 0
+  pub number : c.number ≡ t
 
 -- the cell carries the write of the committed transaction m to key k
 pub record Version (c : Cell) (m k : ℕ) : Type 0 where
-  pub word : c .word ≡ k + 1
-  pub commit : c .commit ≡ m + 1
+  pub word : c.word ≡ k + 1
+  pub commit : c.commit ≡ m + 1
 
 -- a cell of a key stands in the list
-pub in-cells : (l : List Cell) (i k : ℕ) → cellAt l i .word ≡ k + 1 → i < length l
-in-cells [] i k e = absurd (omega arith)
-in-cells (c ∷ cs) zero k e = omega arith
-in-cells (c ∷ cs) (suc i) k e = let h = in-cells cs i k e in omega arith
+pub in_cells : (l : List Cell) (i k : ℕ) → (cell_at l i).word ≡ k + 1 → i < length l
+in_cells [] i k e = absurd (omega arith)
+in_cells (c ∷ cs) zero k e = omega arith
+in_cells (c ∷ cs) (suc i) k e = let h = in_cells cs i k e in omega arith
 
 module _ (c : Cell) where
-  pub not-empty : (k : ℕ) → c .word ≡ k + 1 → not (empty c) ≡ true
-  not-empty k e = ap not (ne-eqb (c .word) 0 (λ z. omega arith))
+  pub not_empty : (k : ℕ) → c.word ≡ k + 1 → not (empty c) ≡ true
+  not_empty k e = ap not (ne_eqb c.word 0 (λ z. omega arith))
 
   -- OWN
-  pub own-facts : (t : ℕ) → own t c ≡ true → (c .commit ≡ 0) × (c .number ≡ t)
-  own-facts t e = (
-    eqb-true _ _ (and-right (not (empty c)) (eqb (c .commit) 0) (and-left (not (empty c) && eqb (c .commit) 0) (eqb (c .number) t) e)),
-    eqb-true _ _ (and-right (not (empty c) && eqb (c .commit) 0) (eqb (c .number) t) e),
+  pub own_facts : (t : ℕ) → own t c ≡ true → (c.commit ≡ 0) × (c.number ≡ t)
+  own_facts t e = (
+    eqb-true _ _ (and_right (not (empty c)) (eqb c.commit 0) (and_left (not (empty c) && eqb c.commit 0) (eqb c.number t) e)),
+    eqb-true _ _ (and_right (not (empty c) && eqb c.commit 0) (eqb c.number t) e),
   )
 
-  pub draft-own : (t k : ℕ) → Draft c t k → own t c ≡ true
-  draft-own t k d = both (both (not-empty k (d .word)) (eq-eqb _ _ (d .commit))) (eq-eqb _ _ (d .number))
+  pub draft_own : (t k : ℕ) → Draft c t k → own t c ≡ true
+  draft_own t k d = both (both (not_empty k d.word) (eq-eqb _ _ d.commit)) (eq-eqb _ _ d.number)
 
-  pub mine-draft : (t k : ℕ) → mine k t c ≡ true → Draft c t k
-  mine-draft t k e =
-      let o = own-facts t (and-right (ofKey k c) (own t c) e) in
-      record { word = eqb-true _ _ (and-left (ofKey k c) (own t c) e); commit = o .0; number = o .1 }
+  pub mine_draft : (t k : ℕ) → mine k t c ≡ true → Draft c t k
+  mine_draft t k e =
+      let o = own_facts t (and_right (of_key k c) (own t c) e) in
+      record { word = eqb-true _ _ (and_left (of_key k c) (own t c) e); commit = o.0; number = o.1 }
 
-  pub draft-mine : (t k : ℕ) → Draft c t k → mine k t c ≡ true
-  draft-mine t k d = both (eq-eqb _ _ (d .word)) (draft-own t k d)
+  pub draft_mine : (t k : ℕ) → Draft c t k → mine k t c ≡ true
+  draft_mine t k d = both (eq-eqb _ _ d.word) (draft_own t k d)
 
   -- FOREIGN
-  pub foreign-facts : (t : ℕ) → foreign t c ≡ true → (c .commit ≡ 0) × (c .number ≡ t → ⊥)
-  foreign-facts t e = (
+  pub foreign_facts : (t : ℕ) → foreign t c ≡ true → (c.commit ≡ 0) × (c.number ≡ t → ⊥)
+  foreign_facts t e = (
     eqb-true _ _
-        (and-right (not (empty c)) (eqb (c .commit) 0) (and-left (not (empty c) && eqb (c .commit) 0) (not (eqb (c .number) t)) e)),
-    eqb-false _ _ (not-true _ (and-right (not (empty c) && eqb (c .commit) 0) (not (eqb (c .number) t)) e)),
+        (and_right (not (empty c)) (eqb c.commit 0) (and_left (not (empty c) && eqb c.commit 0) (not (eqb c.number t)) e)),
+    eqb-false _ _ (not-true _ (and_right (not (empty c) && eqb c.commit 0) (not (eqb c.number t)) e)),
   )
 
-  pub foreign-of : (t u k : ℕ) → Draft c u k → (u ≡ t → ⊥) → foreign t c ≡ true
-  foreign-of t u k d n =
-      both (both (not-empty k (d .word)) (eq-eqb _ _ (d .commit))) (ap not (ne-eqb _ _ (λ e. n (sym (d .number) ∙ e))))
+  pub foreign_of_lem : (t u k : ℕ) → Draft c u k → (u ≡ t → ⊥) → foreign t c ≡ true
+  foreign_of_lem t u k d n =
+      both (both (not_empty k d.word) (eq-eqb _ _ d.commit)) (ap not (ne_eqb _ _ (λ e. n (sym d.number ∙ e))))
 
   -- COMMITTED
-  pub committed-of : (k : ℕ) → c .word ≡ k + 1 → 0 < c .commit → committed c ≡ true
-  committed-of k e h = both (not-empty k e) (lt-ltb _ _ h)
+  pub committed_of : (k : ℕ) → c.word ≡ k + 1 → 0 < c.commit → committed c ≡ true
+  committed_of k e h = both (not_empty k e) (lt-ltb _ _ h)
 
-  pub version-facts : (k : ℕ) → versionOf k c ≡ true → (c .word ≡ k + 1) × (0 < c .commit)
-  version-facts k e = (
-    eqb-true _ _ (and-left (ofKey k c) (committed c) e),
-    ltb-true _ _ (and-right (not (empty c)) (ltb 0 (c .commit)) (and-right (ofKey k c) (committed c) e)),
+  pub version_facts : (k : ℕ) → version_of k c ≡ true → (c.word ≡ k + 1) × (0 < c.commit)
+  version_facts k e = (
+    eqb-true _ _ (and_left (of_key k c) (committed c) e),
+    ltb-true _ _ (and_right (not (empty c)) (ltb 0 c.commit) (and_right (of_key k c) (committed c) e)),
   )
 
   -- no view sees what is no committed cell of the key
-  pub not-visible : (k : ℕ) (r : Reader) → versionOf k c ≡ false → visible k r c ≡ false
-  not-visible k r e = sym (and-assoc (ofKey k c) (committed c) (leb (c .commit) (r .view))) ∙ rw e
+  pub not_visible : (k : ℕ) (r : Reader) → version_of k c ≡ false → visible k r c ≡ false
+  not_visible k r e = sym (and_assoc (of_key k c) (committed c) (leb c.commit r.view)) ∙ rw e
 
-  pub visible-facts : (k : ℕ) (r : Reader) → visible k r c ≡ true → (c .word ≡ k + 1) × (0 < c .commit) × (c .commit ≤ r .view)
-  visible-facts k r e =
-      let s = and-right (ofKey k c) (admits r c) e in (
-        eqb-true _ _ (and-left (ofKey k c) (admits r c) e),
-        ltb-true _ _ (and-right (not (empty c)) (ltb 0 (c .commit)) (and-left (committed c) (leb (c .commit) (r .view)) s)),
-        leb-true _ _ (and-right (committed c) (leb (c .commit) (r .view)) s),
+  pub visible_facts : (k : ℕ) (r : Reader) → visible k r c ≡ true → (c.word ≡ k + 1) × (0 < c.commit) × (c.commit ≤ r.view)
+  visible_facts k r e =
+      let s = and_right (of_key k c) (admits r c) e in (
+        eqb-true _ _ (and_left (of_key k c) (admits r c) e),
+        ltb-true _ _ (and_right (not (empty c)) (ltb 0 c.commit) (and_left (committed c) (leb c.commit r.view) s)),
+        leb-true _ _ (and_right (committed c) (leb c.commit r.view) s),
       )
 
-  pub visible-of : (k : ℕ) (r : Reader) → c .word ≡ k + 1 → 0 < c .commit → c .commit ≤ r .view → visible k r c ≡ true
-  visible-of k r e h l = both (eq-eqb _ _ e) (both (committed-of k e h) (le-leb _ _ l))
+  pub visible_of : (k : ℕ) (r : Reader) → c.word ≡ k + 1 → 0 < c.commit → c.commit ≤ r.view → visible k r c ≡ true
+  visible_of k r e h l = both (eq-eqb _ _ e) (both (committed_of k e h) (le-leb _ _ l))
 
   -- IN THE WAY
-  pub blocks-facts : (k : ℕ) (r : Reader) → blocks k r c ≡ true
-      → (c .word ≡ k + 1) × (((c .commit ≡ 0) × (c .number ≡ r .number → ⊥)) ⊎ (r .view < c .commit))
-  blocks-facts k r e = (
-    eqb-true _ _ (and-left (ofKey k c) (clashes r c) e),
-    cases (or-cases (foreign (r .number) c) (committed c && ltb (r .view) (c .commit)) (and-right (ofKey k c) (clashes r c) e))
-        (λ f. inl (foreign-facts (r .number) f))
-        (λ f. inr (ltb-true _ _ (and-right (committed c) (ltb (r .view) (c .commit)) f))),
+  pub blocks_facts : (k : ℕ) (r : Reader) → blocks k r c ≡ true
+      → (c.word ≡ k + 1) × (((c.commit ≡ 0) × (c.number ≡ r.number → ⊥)) ⊎ (r.view < c.commit))
+  blocks_facts k r e = (
+    eqb-true _ _ (and_left (of_key k c) (clashes r c) e),
+    cases (or_cases (foreign r.number c) (committed c && ltb r.view c.commit) (and_right (of_key k c) (clashes r c) e))
+        (λ f. inl (foreign_facts r.number f))
+        (λ f. inr (ltb-true _ _ (and_right (committed c) (ltb r.view c.commit) f))),
   )
 
-  pub foreign-blocks : (k : ℕ) (r : Reader) (u : ℕ) → Draft c u k → (u ≡ r .number → ⊥) → blocks k r c ≡ true
-  foreign-blocks k r u d n =
-      both (eq-eqb _ _ (d .word))
-      (or-first (foreign (r .number) c) (committed c && ltb (r .view) (c .commit)) (foreign-of (r .number) u k d n))
+  pub foreign_blocks : (k : ℕ) (r : Reader) (u : ℕ) → Draft c u k → (u ≡ r.number → ⊥) → blocks k r c ≡ true
+  foreign_blocks k r u d n =
+      both (eq-eqb _ _ d.word)
+      (or_first (foreign r.number c) (committed c && ltb r.view c.commit) (foreign_of_lem r.number u k d n))
 
-  pub later-blocks : (k : ℕ) (r : Reader) → c .word ≡ k + 1 → r .view < c .commit → blocks k r c ≡ true
-  later-blocks k r e h =
+  pub later_blocks : (k : ℕ) (r : Reader) → c.word ≡ k + 1 → r.view < c.commit → blocks k r c ≡ true
+  later_blocks k r e h =
       both (eq-eqb _ _ e)
-      (or-second (foreign (r .number) c) (committed c && ltb (r .view) (c .commit)) (both (committed-of k e (omega arith)) (lt-ltb _ _ h)))
+      (or_second (foreign r.number c) (committed c && ltb r.view c.commit) (both (committed_of k e (omega arith)) (lt-ltb _ _ h)))
 
   -- NEWER THAN c
-  pub newer-facts : (d : Cell) → newer c d ≡ true → (d .word ≡ c .word) × (c .commit < d .commit)
-  newer-facts d e = (
+  pub newer_facts : (d : Cell) → newer c d ≡ true → (d.word ≡ c.word) × (c.commit < d.commit)
+  newer_facts d e = (
     eqb-true _ _
-        (and-left (eqb (d .word) (c .word)) (committed d) (and-left (eqb (d .word) (c .word) && committed d) (ltb (c .commit) (d .commit)) e)),
-    ltb-true _ _ (and-right (eqb (d .word) (c .word) && committed d) (ltb (c .commit) (d .commit)) e),
+        (and_left (eqb d.word c.word) (committed d) (and_left (eqb d.word c.word && committed d) (ltb c.commit d.commit) e)),
+    ltb-true _ _ (and_right (eqb d.word c.word && committed d) (ltb c.commit d.commit) e),
   )
 
-  pub between-facts : (d : Cell) (r : Reader) → between c r d ≡ true → (newer c d ≡ true) × (d .commit ≤ r .view)
-  between-facts d r e =
-      (and-left (newer c d) (leb (d .commit) (r .view)) e, leb-true _ _ (and-right (newer c d) (leb (d .commit) (r .view)) e))
+  pub between_facts : (d : Cell) (r : Reader) → between c r d ≡ true → (newer c d ≡ true) × (d.commit ≤ r.view)
+  between_facts d r e =
+      (and_left (newer c d) (leb d.commit r.view) e, leb-true _ _ (and_right (newer c d) (leb d.commit r.view) e))
 
   -- SPENT
-  pub spent-facts : (ps : List Place) (cs : List Cell) → spent ps cs c ≡ true
-      → (0 < c .commit) × (hasCell (newer c) cs ≡ true) × (hasPlace (keepsAt cs c) ps ≡ false)
-  spent-facts ps cs e =
-      let a = and-left (committed c && hasCell (newer c) cs) (not (hasPlace (keepsAt cs c) ps)) e in (
-        ltb-true _ _ (and-right (not (empty c)) (ltb 0 (c .commit)) (and-left (committed c) (hasCell (newer c) cs) a)),
-        and-right (committed c) (hasCell (newer c) cs) a,
-        not-true _ (and-right (committed c && hasCell (newer c) cs) (not (hasPlace (keepsAt cs c) ps)) e),
+  pub spent_facts : (ps : List Place) (cs : List Cell) → spent ps cs c ≡ true
+      → (0 < c.commit) × (has_cell (newer c) cs ≡ true) × (has_place (keeps_at cs c) ps ≡ false)
+  spent_facts ps cs e =
+      let a = and_left (committed c && has_cell (newer c) cs) (not (has_place (keeps_at cs c) ps)) e in (
+        ltb-true _ _ (and_right (not (empty c)) (ltb 0 c.commit) (and_left (committed c) (has_cell (newer c) cs) a)),
+        and_right (committed c) (has_cell (newer c) cs) a,
+        not-true _ (and_right (committed c && has_cell (newer c) cs) (not (has_place (keeps_at cs c) ps)) e),
       )
 
-pub newer-of : (c d : Cell) (k : ℕ) → c .word ≡ k + 1 → d .word ≡ k + 1 → c .commit < d .commit → newer c d ≡ true
-newer-of c d k e f h = both (both (eq-eqb _ _ (f ∙ sym e)) (committed-of d k f (omega arith))) (lt-ltb _ _ h)
+pub newer_of : (c d : Cell) (k : ℕ) → c.word ≡ k + 1 → d.word ≡ k + 1 → c.commit < d.commit → newer c d ≡ true
+newer_of c d k e f h = both (both (eq-eqb _ _ (f ∙ sym e)) (committed_of d k f (omega arith))) (lt-ltb _ _ h)
 
 -- THE LOWEST OWN CELL
-pub own-draft : (t k : ℕ) (cs : List Cell) (i : ℕ) → ownAt k t cs ≡ Found.At i → Draft (cellAt cs i) t k
-own-draft t k cs i e = mine-draft (cellAt cs i) t k (own-found k t cs i e .passes)
+pub own_draft : (t k : ℕ) (cs : List Cell) (i : ℕ) → own_at k t cs ≡ Found.At i → Draft (cell_at cs i) t k
+own_draft t k cs i e = mine_draft (cell_at cs i) t k (own_found k t cs i e).passes
 
-pub no-draft : (t k : ℕ) (cs : List Cell) (i : ℕ) → ownAt k t cs ≡ Found.Nothing → Draft (cellAt cs i) t k → ⊥
-no-draft t k cs i e d = clash (draft-mine (cellAt cs i) t k d) (own-none k t cs e i (in-cells cs i k (d .word)))
+pub no_draft : (t k : ℕ) (cs : List Cell) (i : ℕ) → own_at k t cs ≡ Found.Nothing → Draft (cell_at cs i) t k → ⊥
+no_draft t k cs i e d = clash (draft_mine (cell_at cs i) t k d) (own_none k t cs e i (in_cells cs i k d.word))

@@ -2,31 +2,31 @@
 -- common; and every answered read showed what its transaction sees. This is what binds the store; when transactions began and ended, and
 -- which others they saw, is in Timed.
 --     Fair, fair-..       what is kept by each accepted call, and by one that leaves no trace
---     overlapped-apart    what overlapped wrote no key in common
+--     overlapped_apart    what overlapped wrote no key in common
 -- Assumes nothing.
-use mathlib.Core.Path.{_≡_, refl, sym, _∙_, subst}
-use mathlib.Core.Logic.{_⊎_, inl, inr}
-use mathlib.Core.List.{List, [], _∷_, _++_}
-use mathlib.Core.Option.{none, Option·getD}
-use Prim.Native.Nat.{ℕ, _+_, _≤_, _<_}
+use mathlib.Core.Path.{◌≡◌, refl, sym, ◌∙◌, subst}
+use mathlib.Core.Logic.{◌⊎◌, inl, inr}
+use mathlib.Core.List.{List, [], ◌∷◌, ◌++◌}
+use mathlib.Core.Option.{none, get_or}
+use Prim.Native.Nat.{ℕ, ◌+◌, ◌≤◌, ◌<◌}
 use native.Mathlib.Nat.{not-suc-le-zero}
 use native.Mathlib.Omega.{arith}
 use lib.ListN.{length, take}
 use lib.Seq.{take-append-le}
-use Rattle·places.specs.declared.State.{State}
-use Rattle·places.specs.Places.{allPlaces}
-use Rattle·history·specs.specs.History.{Event, read, write, lastWrite, Wrote, Transaction, nobody, doing, turned, Done, Ledger, newLedger, doneAt}
-use Rattle·history·specs.specs.History.{begun, ended, put, tick, opened, leave, sees, Contested, Overlapped}
-use Rattle·history·proofs.proofs.Basics.{cases, eq?, lt?, none-some}
-use Rattle·history·proofs.proofs.Ledgers.{on-put, write-other}
-use Rattle·history·proofs.proofs.Timed.{nth, Timed, grow-at, grow-end, grow-index}
+use Rattle.places.specs.declared.State.{State}
+use Rattle.places.specs.Places.{all_places}
+use Rattle.history.specs.History.{Event, read, write, last_write, Wrote, Transaction, nobody, doing, turned, Done, Ledger, new_ledger, done_at}
+use Rattle.history.specs.History.{begun, ended, put, tick, opened, leave, sees, Contested, Overlapped}
+use Rattle.history.proofs.Basics.{cases, eq?, lt?, none_some}
+use Rattle.history.proofs.Ledgers.{on-put, write_other}
+use Rattle.history.proofs.Timed.{nth, Timed, grow_at, grow_end, grow_index}
 
 -- WHAT IS KEPT
 
 -- each read showed the last write before it, or else what the base holds
 abbrev pub Told : (ℕ → ℕ) → List Event → Type 0
 Told base [] = Unit {0}
-Told base (read k v ∷ es) = (v ≡ Option·getD (lastWrite es k) (base k)) × Told base es
+Told base (read k v ∷ es) = (v ≡ get_or (last_write es k) (base k)) × Told base es
 Told base (write k v ∷ es) = Told base es
 
 -- what the first n of the committed leave
@@ -36,167 +36,167 @@ snapshot D n k = leave (take n D) k
 -- a transaction that saw and did so fits the committed ones: none of those below the bound that it did not see wrote a key that it
 -- wrote; and its reads showed what it saw
 pub record Fits (D : List Done) (bound seen : ℕ) (did : List Event) : Type 0 where
-  pub apart : (i k : ℕ) → seen ≤ i → i < bound → Wrote (nth D i .did) k → Wrote did k → ⊥
+  pub apart : (i k : ℕ) → seen ≤ i → i < bound → Wrote (nth D i).did k → Wrote did k → ⊥
   pub told : Told (snapshot D seen) did
 
 abbrev RunFits : List Done → Transaction → Type 0
-RunFits D r = Fits D (length D) (r .seen) (r .did)
+RunFits D r = Fits D (length D) r.seen r.did
 
 -- the transactions at the places fit, and write apart; each committed one fits those before it
 pub record Fair (L : Ledger) : Type 0 where
-  pub runs : (p : ℕ) → p < allPlaces → RunFits (L .past) (L .at p)
-  pub others : (p q k : ℕ) → p < allPlaces → q < allPlaces → (q ≡ p → ⊥) → Wrote (L .at q .did) k → Wrote (L .at p .did) k → ⊥
-  pub dones : (j : ℕ) → j < length (L .past) → Fits (L .past) j (doneAt L j .seen) (doneAt L j .did)
+  pub runs : (p : ℕ) → p < all_places → RunFits L.past (L.at p)
+  pub others : (p q k : ℕ) → p < all_places → q < all_places → (q ≡ p → ⊥) → Wrote (L.at q).did k → Wrote (L.at p).did k → ⊥
+  pub dones : (j : ℕ) → j < length L.past → Fits L.past j (done_at L j).seen (done_at L j).did
 
-pub overlapped-apart : (L : Ledger) → Timed L → Fair L → (i j : ℕ) → i < j → j < length (L .past) → Overlapped (doneAt L i) (doneAt L j)
-    → (k : ℕ) → Wrote (doneAt L i .did) k → Wrote (doneAt L j .did) k → ⊥
-overlapped-apart L t f i j h l o k w w′ = cases (lt? i (doneAt L j .seen))
-    (λ g. let z = t .dones j l .before i g in omega (arith, z, o .1))
-    (λ g. f .dones j l .apart i k g h w w′)
+pub overlapped_apart : (L : Ledger) → Timed L → Fair L → (i j : ℕ) → i < j → j < length L.past → Overlapped (done_at L i) (done_at L j)
+    → (k : ℕ) → Wrote (done_at L i).did k → Wrote (done_at L j).did k → ⊥
+overlapped_apart L t f i j h l o k w w' = cases (lt? i (done_at L j).seen)
+    (λ g. let z = (t.dones j l).before i g in omega (arith, z, o.1))
+    (λ g. (f.dones j l).apart i k g h w w')
 
 -- ONE TRANSACTION
 
-no-write : {A : Type 0} (k : ℕ) → Wrote [] k → A
-no-write k w = none-some none (w .0) refl (w .1)
+no_write : {A : Type 0} (k : ℕ) → Wrote [] k → A
+no_write k w = none_some none w.0 refl w.1
 
 -- one that did nothing yet
-idle-fits : (D : List Done) (bound seen : ℕ) → Fits D bound seen []
-idle-fits D bound seen = record { apart = λ i k h g w w′. no-write k w′; told = tt }
+idle_fits : (D : List Done) (bound seen : ℕ) → Fits D bound seen []
+idle_fits D bound seen = record { apart = λ i k h g w w'. no_write k w'; told = tt }
 
 module _ (D : List Done) (bound seen : ℕ) (did : List Event) (g : Fits D bound seen did) where
   -- a read that showed what it saw
-  read-fits : (k v : ℕ) → v ≡ Option·getD (lastWrite did k) (snapshot D seen k) → Fits D bound seen (read k v ∷ did)
-  read-fits k v e = record { apart = g .apart; told = (e, g .told) }
+  read_fits : (k v : ℕ) → v ≡ get_or (last_write did k) (snapshot D seen k) → Fits D bound seen (read k v ∷ did)
+  read_fits k v e = record { apart = g.apart; told = (e, g.told) }
 
   -- a write to a key that none of those not seen wrote
-  write-fits : (k v : ℕ) → ((i j : ℕ) → seen ≤ i → i < bound → Wrote (nth D i .did) j → Wrote (write k v ∷ did) j → ⊥)
+  write_fits : (k v : ℕ) → ((i j : ℕ) → seen ≤ i → i < bound → Wrote (nth D i).did j → Wrote (write k v ∷ did) j → ⊥)
       → Fits D bound seen (write k v ∷ did)
-  write-fits k v a = record { apart = a; told = g .told }
+  write_fits k v a = record { apart = a; told = g.told }
 
   -- one more has committed
-  grow-fits : (x : Done) → bound ≤ length D → seen ≤ length D → Fits (D ++ (x ∷ [])) bound seen did
-  grow-fits x low few =
+  grow_fits : (x : Done) → bound ≤ length D → seen ≤ length D → Fits (D ++ (x ∷ [])) bound seen did
+  grow_fits x low few =
       record {
-        apart = λ i k s h w w′. g .apart i k s h (rw (grow-at D x i (omega arith)) at w) w′;
-        told = subst (λ (ds : List Done). Told (λ k. leave ds k) did) (sym (take-append-le seen D (x ∷ []) few)) (g .told);
+        apart = λ i k s h w w'. g.apart i k s h (rw (grow_at D x i (omega arith)) at w) w';
+        told = subst (λ (ds : List Done). Told (λ k. leave ds k) did) (sym (take-append-le seen D (x ∷ []) few)) g.told;
       }
 
 -- one more has committed that wrote no key that this one wrote
-grow-run : (D : List Done) (r : Transaction) (x : Done) → RunFits D r → r .seen ≤ length D → ((k : ℕ) → Wrote (x .did) k → Wrote (r .did) k → ⊥)
+grow_run : (D : List Done) (r : Transaction) (x : Done) → RunFits D r → r.seen ≤ length D → ((k : ℕ) → Wrote x.did k → Wrote r.did k → ⊥)
     → RunFits (D ++ (x ∷ [])) r
-grow-run D r x g few a =
-    let f = grow-fits D (length D) (r .seen) (r .did) g x (omega arith) few in
+grow_run D r x g few a =
+    let f = grow_fits D (length D) r.seen r.did g x (omega arith) few in
     record {
-      apart = λ i k s h w w′. cases (grow-index D x i h)
-          (λ l. f .apart i k s l w w′)
-          (λ e. a k (rw (grow-end D x i e) at w) w′);
-      told = f .told;
+      apart = λ i k s h w w'. cases (grow_index D x i h)
+          (λ l. f.apart i k s l w w')
+          (λ e. a k (rw (grow_end D x i e) at w) w');
+      told = f.told;
     }
 
 -- A NEW LEDGER
 
-pub fresh-fair : Fair newLedger
-fresh-fair =
+pub fresh_fair : Fair new_ledger
+fresh_fair =
     record {
-      runs = λ p l. idle-fits [] 0 0;
-      others = λ p q k l h d w w′. no-write k w′;
+      runs = λ p l. idle_fits [] 0 0;
+      others = λ p q k l h d w w'. no_write k w';
       dones = λ j h. absurd (not-suc-le-zero h);
     }
 
 module _ (L : Ledger) (f : Fair L) where
   -- A CALL THAT LEAVES NO TRACE
-  pub fair-tick : Fair (tick L (L .at) (L .past))
-  fair-tick = record { runs = f .runs; others = f .others; dones = f .dones }
+  pub fair_tick : Fair (tick L L.at L.past)
+  fair_tick = record { runs = f.runs; others = f.others; dones = f.dones }
 
   -- ANOTHER TRANSACTION AT PLACE p
-  module _ (p starts : ℕ) (r : Transaction) (g : RunFits (L .past) r)
-      (o : (q k : ℕ) → q < allPlaces → (q ≡ p → ⊥) → Wrote (L .at q .did) k → Wrote (r .did) k → ⊥) where
-    abbrev runs′ : ℕ → Transaction
-    runs′ = put (L .at) p r
+  module _ (p starts : ℕ) (r : Transaction) (g : RunFits L.past r)
+      (o : (q k : ℕ) → q < all_places → (q ≡ p → ⊥) → Wrote (L.at q).did k → Wrote r.did k → ⊥) where
+    abbrev runs' : ℕ → Transaction
+    runs' = put L.at p r
 
-    others′ : (q s k : ℕ) → q < allPlaces → s < allPlaces → (s ≡ q → ⊥) → Wrote (runs′ s .did) k → Wrote (runs′ q .did) k → ⊥
-    others′ q s k lq ls =
-        on-put (λ q x. q < allPlaces → (s ≡ q → ⊥) → Wrote (runs′ s .did) k → Wrote (x .did) k → ⊥) (L .at) p r
-        (λ _. on-put (λ s x. s < allPlaces → (s ≡ p → ⊥) → Wrote (x .did) k → Wrote (r .did) k → ⊥) (L .at) p r
+    others' : (q s k : ℕ) → q < all_places → s < all_places → (s ≡ q → ⊥) → Wrote (runs' s).did k → Wrote (runs' q).did k → ⊥
+    others' q s k lq ls =
+        on-put (λ q x. q < all_places → (s ≡ q → ⊥) → Wrote (runs' s).did k → Wrote x.did k → ⊥) L.at p r
+        (λ _. on-put (λ s x. s < all_places → (s ≡ p → ⊥) → Wrote x.did k → Wrote r.did k → ⊥) L.at p r
         (λ _ d. absurd (d refl))
         (λ s _ ls. o s k ls) s ls)
-        (λ q e lq. on-put (λ s x. s < allPlaces → (s ≡ q → ⊥) → Wrote (x .did) k → Wrote (L .at q .did) k → ⊥) (L .at) p r
-        (λ _ _ w w′. o q k lq e w′ w)
-        (λ s _ ls. f .others q s k lq ls) s ls)
+        (λ q e lq. on-put (λ s x. s < all_places → (s ≡ q → ⊥) → Wrote x.did k → Wrote (L.at q).did k → ⊥) L.at p r
+        (λ _ _ w w'. o q k lq e w' w)
+        (λ s _ ls. f.others q s k lq ls) s ls)
         q lq
 
-    fair-put : Fair (record { calls = L .calls + 1; starts = starts; at = runs′; past = L .past })
+    fair-put : Fair (record { calls = L.calls + 1; starts = starts; at = runs'; past = L.past })
     fair-put =
         record {
-          runs = on-put (λ q x. q < allPlaces → RunFits (L .past) x) (L .at) p r (λ _. g) (λ q _. f .runs q);
-          others = others′;
-          dones = f .dones;
+          runs = on-put (λ q x. q < all_places → RunFits L.past x) L.at p r (λ _. g) (λ q _. f.runs q);
+          others = others';
+          dones = f.dones;
         }
 
-  pub fair-start : (p : ℕ) → Fair (opened L (put (L .at) p (begun L)))
-  fair-start p =
-      fair-put p (L .starts + 1) (begun L) (idle-fits (L .past) (length (L .past)) (length (L .past))) (λ q k l d w w′. no-write k w′)
+  pub fair_start : (p : ℕ) → Fair (opened L (put L.at p (begun L)))
+  fair_start p =
+      fair-put p (L.starts + 1) (begun L) (idle_fits L.past (length L.past) (length L.past)) (λ q k l d w w'. no_write k w')
 
-  pub fair-turn : (p : ℕ) (s : State) → p < allPlaces → Fair (tick L (put (L .at) p (turned s (L .at p))) (L .past))
-  fair-turn p s l = fair-put p (L .starts) (turned s (L .at p)) (f .runs p l) (λ q k h d. f .others p q k l h d)
+  pub fair_turn : (p : ℕ) (s : State) → p < all_places → Fair (tick L (put L.at p (turned s (L.at p))) L.past)
+  fair_turn p s l = fair-put p L.starts (turned s (L.at p)) (f.runs p l) (λ q k h d. f.others p q k l h d)
 
   -- an answered read that showed what its transaction sees
-  pub fair-read : (p k v : ℕ) → p < allPlaces → v ≡ sees L p k → Fair (tick L (put (L .at) p (doing (read k v) (L .at p))) (L .past))
-  fair-read p k v l e =
-      let r = L .at p in
-      fair-put p (L .starts) (doing (read k v) r) (read-fits (L .past) (length (L .past)) (r .seen) (r .did) (f .runs p l) k v e)
-      (λ q j h d. f .others p q j l h d)
+  pub fair_read : (p k v : ℕ) → p < all_places → v ≡ sees L p k → Fair (tick L (put L.at p (doing (read k v) (L.at p))) L.past)
+  fair_read p k v l e =
+      let r = L.at p in
+      fair-put p L.starts (doing (read k v) r) (read_fits L.past (length L.past) r.seen r.did (f.runs p l) k v e)
+      (λ q j h d. f.others p q j l h d)
 
-  pub fair-rollback : (p : ℕ) → Fair (tick L (put (L .at) p nobody) (L .past))
-  fair-rollback p = fair-put p (L .starts) nobody (idle-fits (L .past) (length (L .past)) 0) (λ q k h d w w′. no-write k w′)
+  pub fair_rollback : (p : ℕ) → Fair (tick L (put L.at p nobody) L.past)
+  fair_rollback p = fair-put p L.starts nobody (idle_fits L.past (length L.past) 0) (λ q k h d w w'. no_write k w')
 
   -- a write that is not the first to its key, or that passed the conflict test
-  pub fair-write : (p k v : ℕ) → p < allPlaces → (Wrote (L .at p .did) k ⊎ (Contested L p k → ⊥))
-      → Fair (tick L (put (L .at) p (doing (write k v) (L .at p))) (L .past))
-  fair-write p k v l c =
-      let r = L .at p in
-      fair-put p (L .starts) (doing (write k v) r)
-      (write-fits (L .past) (length (L .past)) (r .seen) (r .did) (f .runs p l) k v
-      (λ i j h h′ w w′. cases (was j w′)
-      (λ y. f .runs p l .apart i j h h′ w y)
-      (λ y. y .1 (inr (i, h, h′, subst (λ (n : ℕ). Wrote (doneAt L i .did) n) (y .0) w)))))
-      (λ q j h d w w′. cases (was j w′)
-      (λ y. f .others p q j l h d w y)
-      (λ y. y .1 (inl (q, h, d, subst (λ (n : ℕ). Wrote (L .at q .did) n) (y .0) w))))
+  pub fair_write : (p k v : ℕ) → p < all_places → (Wrote (L.at p).did k ⊎ (Contested L p k → ⊥))
+      → Fair (tick L (put L.at p (doing (write k v) (L.at p))) L.past)
+  fair_write p k v l c =
+      let r = L.at p in
+      fair-put p L.starts (doing (write k v) r)
+      (write_fits L.past (length L.past) r.seen r.did (f.runs p l) k v
+      (λ i j h h' w w'. cases (was j w')
+      (λ y. (f.runs p l).apart i j h h' w y)
+      (λ y. y.1 (inr (i, h, h', subst (λ (n : ℕ). Wrote (done_at L i).did n) y.0 w)))))
+      (λ q j h d w w'. cases (was j w')
+      (λ y. f.others p q j l h d w y)
+      (λ y. y.1 (inl (q, h, d, subst (λ (n : ℕ). Wrote (L.at q).did n) y.0 w))))
     where
-      was : (j : ℕ) → Wrote (write k v ∷ L .at p .did) j → Wrote (L .at p .did) j ⊎ ((j ≡ k) × (Contested L p k → ⊥))
+      was : (j : ℕ) → Wrote (write k v ∷ (L.at p).did) j → Wrote (L.at p).did j ⊎ ((j ≡ k) × (Contested L p k → ⊥))
       was j w = cases (eq? j k)
-          (λ e. cases c (λ y. inl (subst (λ (n : ℕ). Wrote (L .at p .did) n) (sym e) y)) (λ y. inr (e, y)))
-          (λ e. inl (w .0, sym (write-other (L .at p .did) k v j e) ∙ w .1))
+          (λ e. cases c (λ y. inl (subst (λ (n : ℕ). Wrote (L.at p).did n) (sym e) y)) (λ y. inr (e, y)))
+          (λ e. inl (w.0, sym (write_other (L.at p).did k v j e) ∙ w.1))
 
   -- A COMMIT
-  module _ (t : Timed L) (p : ℕ) (l : p < allPlaces) where
+  module _ (t : Timed L) (p : ℕ) (l : p < all_places) where
     abbrev last : Done
-    last = ended L (L .at p)
+    last = ended L (L.at p)
 
-    abbrev past′ : List Done
-    past′ = L .past ++ (last ∷ [])
+    abbrev past' : List Done
+    past' = L.past ++ (last ∷ [])
 
     abbrev after : Ledger
-    after = tick L (put (L .at) p nobody) past′
+    after = tick L (put L.at p nobody) past'
 
-    runs-after : (q : ℕ) → q < allPlaces → RunFits past′ (put (L .at) p nobody q)
-    runs-after =
-        on-put (λ q x. q < allPlaces → RunFits past′ x) (L .at) p nobody
-        (λ _. idle-fits past′ (length past′) 0)
-        (λ q e h. grow-run (L .past) (L .at q) last (f .runs q h) (t .runs q .few) (λ k w w′. f .others p q k l h e w′ w))
+    runs_after : (q : ℕ) → q < all_places → RunFits past' (put L.at p nobody q)
+    runs_after =
+        on-put (λ q x. q < all_places → RunFits past' x) L.at p nobody
+        (λ _. idle_fits past' (length past') 0)
+        (λ q e h. grow_run L.past (L.at q) last (f.runs q h) (t.runs q).few (λ k w w'. f.others p q k l h e w' w))
 
-    dones-after : (j : ℕ) → j < length past′ → Fits past′ j (doneAt after j .seen) (doneAt after j .did)
-    dones-after j h = cases (grow-index (L .past) last j h)
+    dones-after : (j : ℕ) → j < length past' → Fits past' j (done_at after j).seen (done_at after j).did
+    dones-after j h = cases (grow_index L.past last j h)
         (λ z.
-        let d = doneAt L j in
-        rw (grow-at (L .past) last j z)
-        (grow-fits (L .past) j (d .seen) (d .did) (f .dones j z) last (omega arith) (omega (arith, t .dones j z .few))))
+        let d = done_at L j in
+        rw (grow_at L.past last j z)
+        (grow_fits L.past j d.seen d.did (f.dones j z) last (omega arith) (omega (arith, (t.dones j z).few))))
         (λ z.
-        let r = L .at p in
-        let g : Fits (L .past) j (r .seen) (r .did) =
-        subst (λ (n : ℕ). Fits (L .past) n (r .seen) (r .did)) (sym z) (f .runs p l) in
-        rw (grow-end (L .past) last j z) (grow-fits (L .past) j (r .seen) (r .did) g last (omega arith) (t .runs p .few)))
+        let r = L.at p in
+        let g : Fits L.past j r.seen r.did =
+        subst (λ (n : ℕ). Fits L.past n r.seen r.did) (sym z) (f.runs p l) in
+        rw (grow_end L.past last j z) (grow_fits L.past j r.seen r.did g last (omega arith) (t.runs p).few))
 
     pub fair-commit : Fair after
-    fair-commit = record { runs = runs-after; others = fair-rollback p .others; dones = dones-after }
+    fair-commit = record { runs = runs_after; others = (fair_rollback p).others; dones = dones-after }

@@ -1,317 +1,317 @@
 -- FULL by the history alone: no cell is free exactly when as many different writes are still needed as there are cells.
---     full-packed, packed-full     the two directions
+--     full_packed, packed_full     the two directions
 -- Assumes nothing.
-use mathlib.Core.Path.{_≡_, refl, sym, ap, _∙_, subst}
-use mathlib.Core.Logic.{_⊎_, inl, inr}
-use mathlib.Core.Bool.{Bool, true, false, cond, not, _&&_, false≢true}
+use mathlib.Core.Path.{◌≡◌, refl, sym, ap, ◌∙◌, subst}
+use mathlib.Core.Logic.{◌⊎◌, inl, inr}
+use mathlib.Core.Bool.{Bool, true, false, cond, not, ◌&&◌, false≢true}
 use mathlib.Core.List.{List}
 use mathlib.Core.Option.{some}
-use Prim.Native.Nat.{ℕ, zero, suc, _+_, _≤_, _<_}
+use Prim.Native.Nat.{ℕ, zero, suc, ◌+◌, ◌≤◌, ◌<◌}
 use native.Mathlib.Nat.{not-suc-le-zero}
 use native.Mathlib.Omega.{arith}
 use lib.Dec.{leb, eqb}
 use lib.ListN.{length}
-use borrow.Author.Tests.{le-leb, leb-true, eq-eqb, ne-eqb, not-true, not-false}
-use Rattle·cells.specs.declared.Cell.{Cell}
-use Rattle·scans.specs.declared.Found.{Found}
-use Rattle·cells.specs.Cells.{empty, committed}
-use Rattle·scans.specs.Rules.{hasCell, keeps}
-use Rattle·cells.specs.Rules.{newer, between}
-use Rattle·scans.proofs.Meaning.{has-none, none-has, lowest-found, lowest-none}
-use Rattle·places.specs.declared.State.{State}
-use Rattle·steps.specs.declared.Board.{Board}
-use Rattle·places.specs.Places.{allPlaces, isOpen}
-use Rattle·steps.specs.Record.{placeAt}
-use Rattle·places.specs.Spent.{hasPlace, keepsAt, spent, free, reusable}
-use Rattle·steps.specs.Step.{numberAt, viewAt, readerAt}
-use Rattle·laws.proofs.Tests.{two, and-both as both, and-left, and-right, or-neither, or-left as neither-left, or-right as neither-right, clash}
-use Rattle·laws.proofs.Tests.{and-rest}
-use Rattle·history·specs.specs.History.{Ledger, Wrote, doneAt}
-use Rattle·history·specs.specs.Verdict.{Item, unfinished, version, Last, Needed, Packed}
-use Rattle·history·proofs.proofs.Basics.{cases, eq?, lt?, none?, none-some, pos}
-use Rattle·places.proofs.Spent.{place-found, some-place}
-use Rattle·history·proofs.proofs.Facts.{cellAt, in-cells, Draft, Version, committed-of, newer-facts, newer-of, between-facts, spent-facts}
-use Rattle·history·proofs.proofs.Leave.{wroteAt}
-use Rattle·history·proofs.proofs.Link.{Live, Linked, inside, writer-busy, same-place}
+use borrow.Author.Tests.{le-leb, leb-true, eq-eqb, ne_eqb, not-true, not-false}
+use Rattle.cells.specs.declared.Cell.{Cell}
+use Rattle.scans.specs.declared.Found.{Found}
+use Rattle.cells.specs.Cells.{empty, committed}
+use Rattle.scans.specs.Rules.{has_cell, keeps}
+use Rattle.cells.specs.Rules.{newer, between}
+use Rattle.scans.proofs.Meaning.{has_none, none_has, lowest_found, lowest_none}
+use Rattle.places.specs.declared.State.{State}
+use Rattle.steps.specs.declared.Board.{Board}
+use Rattle.places.specs.Places.{all_places, is_open}
+use Rattle.steps.specs.Record.{place_at}
+use Rattle.places.specs.Spent.{has_place, keeps_at, spent, free, reusable}
+use Rattle.steps.specs.Step.{number_at, view_at, reader_at}
+use Rattle.laws.proofs.Tests.{two, and_both as both, and_left, and_right, or_neither, or_left as neither_left, or_right as neither_right, clash}
+use Rattle.laws.proofs.Tests.{and_rest}
+use Rattle.history.specs.History.{Ledger, Wrote, done_at}
+use Rattle.history.specs.Verdict.{Item, unfinished, version, Last, Needed, Packed}
+use Rattle.history.proofs.Basics.{cases, eq?, lt?, none?, none_some, pos}
+use Rattle.places.proofs.Spent.{place_found, some_place}
+use Rattle.history.proofs.Facts.{cell_at, in_cells, Draft, Version, committed_of, newer_facts, newer_of, between_facts, spent_facts}
+use Rattle.history.proofs.Leave.{wrote_at}
+use Rattle.history.proofs.Link.{Live, Linked, inside, writer_busy, same_place}
 
 -- PIGEONS
 
 swap : (ℕ → ℕ) → ℕ → ℕ → ℕ
 swap c n i = cond (eqb (c i) n) (c (suc n)) (c i)
 
-swap-same : (c : ℕ → ℕ) (n i : ℕ) → c i ≡ n → swap c n i ≡ c (suc n)
+swap_same : (c : ℕ → ℕ) (n i : ℕ) → c i ≡ n → swap c n i ≡ c (suc n)
 unfolding swap
-swap-same c n i e = rw (eq-eqb (c i) n e)
+swap_same c n i e = rw (eq-eqb (c i) n e)
 
-swap-other : (c : ℕ → ℕ) (n i : ℕ) → (c i ≡ n → ⊥) → swap c n i ≡ c i
+swap_other : (c : ℕ → ℕ) (n i : ℕ) → (c i ≡ n → ⊥) → swap c n i ≡ c i
 unfolding swap
-swap-other c n i e = rw (ne-eqb (c i) n e)
+swap_other c n i e = rw (ne_eqb (c i) n e)
 
 -- n + 1 different numbers are not all below n
 pigeons : (n : ℕ) (c : ℕ → ℕ) → ((i : ℕ) → i ≤ n → c i < n) → ((i j : ℕ) → i ≤ n → j ≤ n → c i ≡ c j → i ≡ j) → ⊥
 pigeons zero c low inj = not-suc-le-zero (low 0 (omega arith))
-pigeons (suc n) c low inj = pigeons n (swap c n) low′ inj′
+pigeons (suc n) c low inj = pigeons n (swap c n) low' inj'
   where
-    low′ : (i : ℕ) → i ≤ n → swap c n i < n
-    low′ i h = cases (eq? (c i) n)
-        (λ e. rw (swap-same c n i e)
+    low' : (i : ℕ) → i ≤ n → swap c n i < n
+    low' i h = cases (eq? (c i) n)
+        (λ e. rw (swap_same c n i e)
         (let a = low (suc n) (omega arith) in
         let d : c (suc n) ≡ n → ⊥ = λ g. let z : i ≡ suc n = inj i (suc n) (omega arith) (omega arith) (e ∙ sym g) in omega arith in
         omega (arith, a, d)))
-        (λ e. rw (swap-other c n i e) (let a = low i (omega arith) in omega (arith, a, e)))
+        (λ e. rw (swap_other c n i e) (let a = low i (omega arith) in omega (arith, a, e)))
 
-    inj′ : (i j : ℕ) → i ≤ n → j ≤ n → swap c n i ≡ swap c n j → i ≡ j
-    inj′ i j h g e = cases (eq? (c i) n)
+    inj' : (i j : ℕ) → i ≤ n → j ≤ n → swap c n i ≡ swap c n j → i ≡ j
+    inj' i j h g e = cases (eq? (c i) n)
         (λ x. cases (eq? (c j) n)
         (λ y. inj i j (omega arith) (omega arith) (x ∙ sym y))
-        (λ y. absurd (let z : suc n ≡ j = inj (suc n) j (omega arith) (omega arith) (sym (swap-same c n i x) ∙ e ∙ swap-other c n j y) in omega arith)))
+        (λ y. absurd (let z : suc n ≡ j = inj (suc n) j (omega arith) (omega arith) (sym (swap_same c n i x) ∙ e ∙ swap_other c n j y) in omega arith)))
         (λ x. cases (eq? (c j) n)
-        (λ y. absurd (let z : i ≡ suc n = inj i (suc n) (omega arith) (omega arith) (sym (swap-other c n i x) ∙ e ∙ swap-same c n j y) in omega arith))
-        (λ y. inj i j (omega arith) (omega arith) (sym (swap-other c n i x) ∙ e ∙ swap-other c n j y)))
+        (λ y. absurd (let z : i ≡ suc n = inj i (suc n) (omega arith) (omega arith) (sym (swap_other c n i x) ∙ e ∙ swap_same c n j y) in omega arith))
+        (λ y. inj i j (omega arith) (omega arith) (sym (swap_other c n i x) ∙ e ∙ swap_other c n j y)))
 
 -- TESTS
 
-open-by : (s : State) → isOpen s ≡ true → s ≡ State.Open
-open-by State.Idle e = absurd (false≢true e)
-open-by State.Open e = refl
-open-by State.Spoiled e = absurd (false≢true e)
-open-by State.Prepared e = absurd (false≢true e)
+open_by : (s : State) → is_open s ≡ true → s ≡ State.Open
+open_by State.Idle e = absurd (false≢true e)
+open_by State.Open e = refl
+open_by State.Spoiled e = absurd (false≢true e)
+open_by State.Prepared e = absurd (false≢true e)
 
-false-second : (x y z : Bool) → y ≡ false → (x && y && z) ≡ false
-false-second true y z e = cc
-false-second false y z e = refl
+false_second : (x y z : Bool) → y ≡ false → (x && y && z) ≡ false
+false_second true y z e = cc
+false_second false y z e = refl
 
-false-third : (x y z : Bool) → z ≡ false → (x && y && z) ≡ false
-false-third true true z e = e
-false-third true false z e = refl
-false-third false y z e = refl
+false_third : (x y z : Bool) → z ≡ false → (x && y && z) ≡ false
+false_third true true z e = e
+false_third true false z e = refl
+false_third false y z e = refl
 
-none-below : (t : Cell → Bool) (cs : List Cell) → ((i : ℕ) → i < length cs → t (cellAt cs i) ≡ true → ⊥) → hasCell t cs ≡ false
-none-below t cs f = none-has t cs (λ i h. cases (two (t (cellAt cs i))) (λ e. absurd (f i h e)) (λ e. e))
+none_below : (t : Cell → Bool) (cs : List Cell) → ((i : ℕ) → i < length cs → t (cell_at cs i) ≡ true → ⊥) → has_cell t cs ≡ false
+none_below t cs f = none_has t cs (λ i h. cases (two (t (cell_at cs i))) (λ e. absurd (f i h e)) (λ e. e))
 
 module _ {b : Board} {cs : List Cell} {L : Ledger} (𝓛 : Linked b cs L) where
   -- the cell carries the item
   abbrev Carries : Cell → Item → Type 0
-  Carries c (unfinished p k) = Draft c (numberAt b p) k
+  Carries c (unfinished p k) = Draft c (number_at b p) k
   Carries c (version m k) = Version c m k
 
-  abbrev kept-by : Cell → Bool
-  kept-by c = hasPlace (keepsAt cs c) (b .places)
+  abbrev kept_by : Cell → Bool
+  kept_by c = has_place (keeps_at cs c) b.places
 
   -- no later cell is within w: no later write is
-  no-later-write : (i m k w : ℕ) → Live b w → Version (cellAt cs i) m k
-      → ((j : ℕ) → j < length cs → newer (cellAt cs i) (cellAt cs j) ≡ true → cellAt cs j .commit ≤ w → ⊥) → Last L m k w
-  no-later-write i m k w live v n j h g = cases (none? (wroteAt (L .past) j k)) (λ e. e)
+  no_later_write : (i m k w : ℕ) → Live b w → Version (cell_at cs i) m k
+      → ((j : ℕ) → j < length cs → newer (cell_at cs i) (cell_at cs j) ≡ true → (cell_at cs j).commit ≤ w → ⊥) → Last L m k w
+  no_later_write i m k w live v n j h g = cases (none? (wrote_at L.past j k)) (λ e. e)
       (λ s. absurd
-      (let r = 𝓛 .cells .kept w live j k (s .0) g (s .1) in
-      n (r .cell) (in-cells cs (r .cell) k (r .word))
-      (newer-of (cellAt cs i) (cellAt cs (r .cell)) k (v .word) (r .word) (omega (arith, v .commit, r .above)))
-      (r .within)))
+      (let r = 𝓛.cells.kept w live j k s.0 g s.1 in
+      n r.cell (in_cells cs r.cell k r.word)
+      (newer_of (cell_at cs i) (cell_at cs r.cell) k v.word r.word (omega (arith, v.commit, r.above)))
+      r.within))
 
   -- no later write is within w: no later cell is
-  no-later-cell : (i m k w : ℕ) → Version (cellAt cs i) m k → Last L m k w → (j : ℕ) → newer (cellAt cs i) (cellAt cs j) ≡ true
-      → cellAt cs j .commit ≤ w → ⊥
-  no-later-cell i m k w v last j e h =
-      let f = newer-facts (cellAt cs i) (cellAt cs j) e in
-      let u = pos (cellAt cs j .commit) (omega (arith, f .1)) in
-      let r = 𝓛 .cells .pasts j (u .0) k (record { word = f .0 ∙ v .word; commit = u .1 }) in
-      none-some (wroteAt (L .past) (u .0) k) (cellAt cs j .value)
-      (last (u .0) (omega (arith, v .commit, u .1, f .1)) (omega (arith, u .1))) (r .1)
+  no_later_cell : (i m k w : ℕ) → Version (cell_at cs i) m k → Last L m k w → (j : ℕ) → newer (cell_at cs i) (cell_at cs j) ≡ true
+      → (cell_at cs j).commit ≤ w → ⊥
+  no_later_cell i m k w v last j e h =
+      let f = newer_facts (cell_at cs i) (cell_at cs j) e in
+      let u = pos (cell_at cs j).commit (omega (arith, f.1)) in
+      let r = 𝓛.cells.pasts j u.0 k (record { word = f.0 ∙ v.word; commit = u.1 }) in
+      none_some (wrote_at L.past u.0 k) (cell_at cs j).value
+      (last u.0 (omega (arith, v.commit, u.1, f.1)) (omega (arith, u.1))) r.1
 
   -- A CELL THAT IS NOT FREE CARRIES A NEEDED WRITE
   Taken : ℕ → Type 0
-  Taken i = (x : Item) × Needed L x × Carries (cellAt cs i) x
+  Taken i = (x : Item) × Needed L x × Carries (cell_at cs i) x
 
   -- an open place that keeps the version sees it as the key's last
-  shown-to : (i m k q : ℕ) → Version (cellAt cs i) m k → q < allPlaces → keepsAt cs (cellAt cs i) (placeAt b q) ≡ true
-      → (L .at q .state ≡ State.Open) × (m < L .at q .seen) × Last L m k (L .at q .seen)
-  shown-to i m k q v l e =
-      let c = cellAt cs i in
-      let r = readerAt b q in
-      let w = viewAt b q in
-      let g = and-right (isOpen (placeAt b q .state)) (keeps cs c r) e in
-      let o = open-by (placeAt b q .state) (and-left (isOpen (placeAt b q .state)) (keeps cs c r) e) in
-      let le = leb-true (c .commit) w (and-left (leb (c .commit) w) (not (hasCell (between c r) cs)) g) in
-      let n = has-none (between c r) cs (not-true _ (and-right (leb (c .commit) w) (not (hasCell (between c r) cs)) g)) in
-      let a = 𝓛 .places .placed q l in
+  shown_to : (i m k q : ℕ) → Version (cell_at cs i) m k → q < all_places → keeps_at cs (cell_at cs i) (place_at b q) ≡ true
+      → ((L.at q).state ≡ State.Open) × (m < (L.at q).seen) × Last L m k (L.at q).seen
+  shown_to i m k q v l e =
+      let c = cell_at cs i in
+      let r = reader_at b q in
+      let w = view_at b q in
+      let g = and_right (is_open (place_at b q).state) (keeps cs c r) e in
+      let o = open_by (place_at b q).state (and_left (is_open (place_at b q).state) (keeps cs c r) e) in
+      let le = leb-true c.commit w (and_left (leb c.commit w) (not (has_cell (between c r) cs)) g) in
+      let n = has_none (between c r) cs (not-true _ (and_right (leb c.commit w) (not (has_cell (between c r) cs)) g)) in
+      let a = 𝓛.places.placed q l in
       let last : Last L m k w =
-      no-later-write i m k w (inr (q, l, o, refl)) v (λ j h t h′. clash (both t (le-leb (cellAt cs j .commit) w h′)) (n j h)) in
-      (sym (a .state) ∙ o, omega (arith, le, v .commit, a .view), subst (λ (n : ℕ). Last L m k n) (a .view) last)
+      no_later_write i m k w (inr (q, l, o, refl)) v (λ j h t h'. clash (both t (le-leb (cell_at cs j).commit w h')) (n j h)) in
+      (sym a.state ∙ o, omega (arith, le, v.commit, a.view), subst (λ (n : ℕ). Last L m k n) a.view last)
 
-  version-taken : (i m k : ℕ) → Version (cellAt cs i) m k → spent (b .places) cs (cellAt cs i) ≡ false → Taken i
+  version_taken : (i m k : ℕ) → Version (cell_at cs i) m k → spent b.places cs (cell_at cs i) ≡ false → Taken i
   unfolding Taken
-  version-taken i m k v e =
-      let c = cellAt cs i in
-      let r = 𝓛 .cells .pasts i m k v in
-      let w : Wrote (doneAt L m .did) k = (c .value, r .1) in
-      cases (two (hasCell (newer c) cs))
+  version_taken i m k v e =
+      let c = cell_at cs i in
+      let r = 𝓛.cells.pasts i m k v in
+      let w : Wrote (done_at L m).did k = (c.value, r.1) in
+      cases (two (has_cell (newer c) cs))
       (λ t.
-      let front = both (committed-of c k (v .word) (omega (arith, v .commit))) t in
-      let g = place-found (keepsAt cs c) (b .places)
-      (not-false _ (and-rest (committed c && hasCell (newer c) cs) (not (kept-by c)) e front)) in
-      let l : g .at < allPlaces = omega (arith, g .inside, 𝓛 .places .sixteen) in
-      let s = shown-to i m k (g .at) v l (g .passes) in
-      (version m k, (r .0, w, inr (g .at, l, s .0, s .1, s .2)), v))
+      let front = both (committed_of c k v.word (omega (arith, v.commit))) t in
+      let g = place_found (keeps_at cs c) b.places
+      (not-false _ (and_rest (committed c && has_cell (newer c) cs) (not (kept_by c)) e front)) in
+      let l : g.at < all_places = omega (arith, g.inside, 𝓛.places.sixteen) in
+      let s = shown_to i m k g.at v l g.passes in
+      (version m k, (r.0, w, inr (g.at, l, s.0, s.1, s.2)), v))
       (λ t.
-      let last : Last L m k (b .commits) =
-      no-later-write i m k (b .commits) (inl refl) v (λ j h u _. clash u (has-none (newer c) cs t j h)) in
-      (version m k, (r .0, w, inl (subst (λ (n : ℕ). Last L m k n) (𝓛 .counts .counted) last)), v))
+      let last : Last L m k b.commits =
+      no_later_write i m k b.commits (inl refl) v (λ j h u _. clash u (has_none (newer c) cs t j h)) in
+      (version m k, (r.0, w, inl (subst (λ (n : ℕ). Last L m k n) 𝓛.counts.counted last)), v))
 
-  taken : (i : ℕ) → free (b .places) cs (cellAt cs i) ≡ false → Taken i
+  taken : (i : ℕ) → free b.places cs (cell_at cs i) ≡ false → Taken i
   unfolding Taken
-  taken i e = go (cellAt cs i .word) (cellAt cs i .commit) refl refl
+  taken i e = go (cell_at cs i).word (cell_at cs i).commit refl refl
     where
-      go : (w n : ℕ) → cellAt cs i .word ≡ w → cellAt cs i .commit ≡ n → Taken i
-      go zero n f g = clash (eq-eqb _ _ f) (neither-left (empty (cellAt cs i)) (spent (b .places) cs (cellAt cs i)) e)
+      go : (w n : ℕ) → (cell_at cs i).word ≡ w → (cell_at cs i).commit ≡ n → Taken i
+      go zero n f g = clash (eq-eqb _ _ f) (neither_left (empty (cell_at cs i)) (spent b.places cs (cell_at cs i)) e)
       go (suc k) zero f g =
-          let word : cellAt cs i .word ≡ k + 1 = omega arith in
-          let r = 𝓛 .cells .drafts i _ k (record { word = word; commit = g; number = refl }) in
-          (unfinished (r .0) k, (r .1, (cellAt cs i .value, r .3)), record { word = word; commit = g; number = sym (r .2) })
+          let word : (cell_at cs i).word ≡ k + 1 = omega arith in
+          let r = 𝓛.cells.drafts i _ k (record { word = word; commit = g; number = refl }) in
+          (unfinished r.0 k, (r.1, ((cell_at cs i).value, r.3)), record { word = word; commit = g; number = sym r.2 })
       go (suc k) (suc m) f g =
-          version-taken i m k (record { word = omega arith; commit = omega arith })
-          (neither-right (empty (cellAt cs i)) (spent (b .places) cs (cellAt cs i)) e)
+          version_taken i m k (record { word = omega arith; commit = omega arith })
+          (neither_right (empty (cell_at cs i)) (spent b.places cs (cell_at cs i)) e)
 
   -- A NEEDED WRITE IS IN A CELL THAT IS NOT FREE
   Holds : Item → Type 0
-  Holds x = (i : ℕ) × (i < length cs) × (free (b .places) cs (cellAt cs i) ≡ false) × Carries (cellAt cs i) x
+  Holds x = (i : ℕ) × (i < length cs) × (free b.places cs (cell_at cs i) ≡ false) × Carries (cell_at cs i) x
 
-  not-free : (i k : ℕ) → cellAt cs i .word ≡ k + 1 → spent (b .places) cs (cellAt cs i) ≡ false → free (b .places) cs (cellAt cs i) ≡ false
-  not-free i k e s = or-neither (ne-eqb (cellAt cs i .word) 0 (λ z. omega arith)) s
+  not_free : (i k : ℕ) → (cell_at cs i).word ≡ k + 1 → spent b.places cs (cell_at cs i) ≡ false → free b.places cs (cell_at cs i) ≡ false
+  not_free i k e s = or_neither (ne_eqb (cell_at cs i).word 0 (λ z. omega arith)) s
 
   -- the cell that `kept` gives is the very version, where no later write is within w
-  exact : (w : ℕ) → Live b w → (m k v : ℕ) → m < w → wroteAt (L .past) m k ≡ some v → Last L m k w → (i : ℕ) × Version (cellAt cs i) m k
+  exact : (w : ℕ) → Live b w → (m k v : ℕ) → m < w → wrote_at L.past m k ≡ some v → Last L m k w → (i : ℕ) × Version (cell_at cs i) m k
   exact w live m k v h e last =
-      let r = 𝓛 .cells .kept w live m k v h e in
-      let u = pos (cellAt cs (r .cell) .commit) (omega (arith, r .above)) in
-      let p = 𝓛 .cells .pasts (r .cell) (u .0) k (record { word = r .word; commit = u .1 }) in
-      cases (eq? (u .0) m)
-      (λ z. (r .cell, record { word = r .word; commit = u .1 ∙ ap (λ (n : ℕ). n + 1) z }))
-      (λ z. none-some (wroteAt (L .past) (u .0) k) (cellAt cs (r .cell) .value)
-      (last (u .0) (omega (arith, r .above, u .1, z)) (omega (arith, r .within, u .1))) (p .1))
+      let r = 𝓛.cells.kept w live m k v h e in
+      let u = pos (cell_at cs r.cell).commit (omega (arith, r.above)) in
+      let p = 𝓛.cells.pasts r.cell u.0 k (record { word = r.word; commit = u.1 }) in
+      cases (eq? u.0 m)
+      (λ z. (r.cell, record { word = r.word; commit = u.1 ∙ ap (λ (n : ℕ). n + 1) z }))
+      (λ z. none_some (wrote_at L.past u.0 k) (cell_at cs r.cell).value
+      (last u.0 (omega (arith, r.above, u.1, z)) (omega (arith, r.within, u.1))) p.1)
 
-  holds-unfinished : (p k : ℕ) → Needed L (unfinished p k) → Holds (unfinished p k)
+  holds_unfinished : (p k : ℕ) → Needed L (unfinished p k) → Holds (unfinished p k)
   unfolding Holds
-  holds-unfinished p k n =
-      let r = 𝓛 .cells .drafted p k (n .1 .0) (n .0) (n .1 .1) in
-      let d = r .1 in
-      let c = cellAt cs (r .0) in
-      let s : spent (b .places) cs c ≡ false =
-      cases (two (spent (b .places) cs c)) (λ e. absurd (omega (arith, spent-facts c (b .places) cs e .0, d .commit))) (λ e. e) in
-      (r .0, in-cells cs (r .0) k (d .word), not-free (r .0) k (d .word) s, d)
+  holds_unfinished p k n =
+      let r = 𝓛.cells.drafted p k n.1.0 n.0 n.1.1 in
+      let d = r.1 in
+      let c = cell_at cs r.0 in
+      let s : spent b.places cs c ≡ false =
+      cases (two (spent b.places cs c)) (λ e. absurd (omega (arith, (spent_facts c b.places cs e).0, d.commit))) (λ e. e) in
+      (r.0, in_cells cs r.0 k d.word, not_free r.0 k d.word s, d)
 
-  holds-last : (m k v : ℕ) → m < b .commits → wroteAt (L .past) m k ≡ some v → Last L m k (b .commits) → Holds (version m k)
+  holds_last : (m k v : ℕ) → m < b.commits → wrote_at L.past m k ≡ some v → Last L m k b.commits → Holds (version m k)
   unfolding Holds
-  holds-last m k v h e last =
-      let r = exact (b .commits) (inl refl) m k v h e last in
-      let x = r .1 in
-      let c = cellAt cs (r .0) in
-      let s : hasCell (newer c) cs ≡ false =
-      none-below (newer c) cs (λ j g t.
-      let f = newer-facts c (cellAt cs j) t in
-      let u = pos (cellAt cs j .commit) (omega (arith, f .1)) in
-      let q = 𝓛 .cells .pasts j (u .0) k (record { word = f .0 ∙ x .word; commit = u .1 }) in
-      no-later-cell (r .0) m k (b .commits) x last j t (omega (arith, u .1, q .0, 𝓛 .counts .counted))) in (
-        r .0,
-        in-cells cs (r .0) k (x .word),
-        not-free (r .0) k (x .word) (false-second (committed c) (hasCell (newer c) cs) (not (kept-by c)) s),
+  holds_last m k v h e last =
+      let r = exact b.commits (inl refl) m k v h e last in
+      let x = r.1 in
+      let c = cell_at cs r.0 in
+      let s : has_cell (newer c) cs ≡ false =
+      none_below (newer c) cs (λ j g t.
+      let f = newer_facts c (cell_at cs j) t in
+      let u = pos (cell_at cs j).commit (omega (arith, f.1)) in
+      let q = 𝓛.cells.pasts j u.0 k (record { word = f.0 ∙ x.word; commit = u.1 }) in
+      no_later_cell r.0 m k b.commits x last j t (omega (arith, u.1, q.0, 𝓛.counts.counted))) in (
+        r.0,
+        in_cells cs r.0 k x.word,
+        not_free r.0 k x.word (false_second (committed c) (has_cell (newer c) cs) (not (kept_by c)) s),
         x,
       )
 
-  holds-seen : (m k v p : ℕ) → wroteAt (L .past) m k ≡ some v → p < allPlaces → placeAt b p .state ≡ State.Open → m < viewAt b p
-      → Last L m k (viewAt b p) → Holds (version m k)
+  holds_seen : (m k v p : ℕ) → wrote_at L.past m k ≡ some v → p < all_places → (place_at b p).state ≡ State.Open → m < view_at b p
+      → Last L m k (view_at b p) → Holds (version m k)
   unfolding Holds
-  holds-seen m k v p e l o h last =
-      let r = exact (viewAt b p) (inr (p, l, o, refl)) m k v h e last in
-      let x = r .1 in
-      let c = cellAt cs (r .0) in
-      let t : hasCell (between c (readerAt b p)) cs ≡ false =
-      none-below (between c (readerAt b p)) cs (λ j g u.
-      let f = between-facts c (cellAt cs j) (readerAt b p) u in
-      no-later-cell (r .0) m k (viewAt b p) x last j (f .0) (f .1)) in
-      let g : keepsAt cs c (placeAt b p) ≡ true =
-      both (ap isOpen o) (both (le-leb (c .commit) (viewAt b p) (omega (arith, x .commit, h))) (ap not t)) in
-      let s : kept-by c ≡ true = some-place (keepsAt cs c) (b .places) p (inside 𝓛 l) g in (
-        r .0,
-        in-cells cs (r .0) k (x .word),
-        not-free (r .0) k (x .word) (false-third (committed c) (hasCell (newer c) cs) (not (kept-by c)) (ap not s)),
+  holds_seen m k v p e l o h last =
+      let r = exact (view_at b p) (inr (p, l, o, refl)) m k v h e last in
+      let x = r.1 in
+      let c = cell_at cs r.0 in
+      let t : has_cell (between c (reader_at b p)) cs ≡ false =
+      none_below (between c (reader_at b p)) cs (λ j g u.
+      let f = between_facts c (cell_at cs j) (reader_at b p) u in
+      no_later_cell r.0 m k (view_at b p) x last j f.0 f.1) in
+      let g : keeps_at cs c (place_at b p) ≡ true =
+      both (ap is_open o) (both (le-leb c.commit (view_at b p) (omega (arith, x.commit, h))) (ap not t)) in
+      let s : kept_by c ≡ true = some_place (keeps_at cs c) b.places p (inside 𝓛 l) g in (
+        r.0,
+        in_cells cs r.0 k x.word,
+        not_free r.0 k x.word (false_third (committed c) (has_cell (newer c) cs) (not (kept_by c)) (ap not s)),
         x,
       )
 
   held : (x : Item) → Needed L x → Holds x
-  held (unfinished p k) n = holds-unfinished p k n
-  held (version m k) n = cases (n .2)
-      (λ last. holds-last m k (n .1 .0) (omega (arith, n .0, 𝓛 .counts .counted)) (n .1 .1) (subst (λ (w : ℕ). Last L m k w) (sym (𝓛 .counts .counted)) last))
+  held (unfinished p k) n = holds_unfinished p k n
+  held (version m k) n = cases n.2
+      (λ last. holds_last m k n.1.0 (omega (arith, n.0, 𝓛.counts.counted)) n.1.1 (subst (λ (w : ℕ). Last L m k w) (sym 𝓛.counts.counted) last))
       (λ y.
-      let a = 𝓛 .places .placed (y .0) (y .1) in
-      holds-seen m k (n .1 .0) (y .0) (n .1 .1) (y .1) (a .state ∙ y .2) (omega (arith, y .3, a .view))
-      (subst (λ (w : ℕ). Last L m k w) (sym (a .view)) (y .4)))
+      let a = 𝓛.places.placed y.0 y.1 in
+      holds_seen m k n.1.0 y.0 n.1.1 y.1 (a.state ∙ y.2) (omega (arith, y.3, a.view))
+      (subst (λ (w : ℕ). Last L m k w) (sym a.view) y.4))
 
   -- A CELL CARRIES ONE ITEM, AND AN ITEM IS IN ONE CELL
-  one-item : (c : Cell) (x y : Item) → Needed L x → Needed L y → Carries c x → Carries c y → x ≡ y
-  one-item c (unfinished p k) (unfinished q j) n n′ d e =
+  one_item : (c : Cell) (x y : Item) → Needed L x → Needed L y → Carries c x → Carries c y → x ≡ y
+  one_item c (unfinished p k) (unfinished q j) n n' d e =
       let a : p ≡ q =
-      same-place 𝓛 p q (n .0) (n′ .0) (writer-busy 𝓛 p k (n .1 .0) (n .0) (n .1 .1))
-      (writer-busy 𝓛 q j (n′ .1 .0) (n′ .0) (n′ .1 .1)) (sym (d .number) ∙ e .number) in
-      let y : k ≡ j = omega (arith, d .word, e .word) in
+      same_place 𝓛 p q n.0 n'.0 (writer_busy 𝓛 p k n.1.0 n.0 n.1.1)
+      (writer_busy 𝓛 q j n'.1.0 n'.0 n'.1.1) (sym d.number ∙ e.number) in
+      let y : k ≡ j = omega (arith, d.word, e.word) in
       cc
-  one-item c (unfinished p k) (version m j) n n′ d e = absurd (omega (arith, d .commit, e .commit))
-  one-item c (version m k) (unfinished q j) n n′ d e = absurd (omega (arith, d .commit, e .commit))
-  one-item c (version m k) (version l j) n n′ d e =
-      let y : k ≡ j = omega (arith, d .word, e .word) in
-      let y′ : m ≡ l = omega (arith, d .commit, e .commit) in
+  one_item c (unfinished p k) (version m j) n n' d e = absurd (omega (arith, d.commit, e.commit))
+  one_item c (version m k) (unfinished q j) n n' d e = absurd (omega (arith, d.commit, e.commit))
+  one_item c (version m k) (version l j) n n' d e =
+      let y : k ≡ j = omega (arith, d.word, e.word) in
+      let y' : m ≡ l = omega (arith, d.commit, e.commit) in
       cc
 
-  one-cell : (i j : ℕ) (x : Item) → Carries (cellAt cs i) x → Carries (cellAt cs j) x → i ≡ j
-  one-cell i j (unfinished p k) d e = 𝓛 .cells .single i j (numberAt b p) k d e
-  one-cell i j (version m k) d e = 𝓛 .cells .unique i j m k d e
+  one_cell : (i j : ℕ) (x : Item) → Carries (cell_at cs i) x → Carries (cell_at cs j) x → i ≡ j
+  one_cell i j (unfinished p k) d e = 𝓛.cells.single i j (number_at b p) k d e
+  one_cell i j (version m k) d e = 𝓛.cells.unique i j m k d e
 
   -- FULL
-  pub full-packed : reusable (b .places) cs ≡ Found.Nothing → Packed (length cs) L
+  pub full_packed : reusable b.places cs ≡ Found.Nothing → Packed (length cs) L
   unfolding Taken reusable
-  full-packed e =
+  full_packed e =
       record {
-        item = λ i h. at i h .0;
-        needed = λ i h. at i h .1;
-        different = λ i j h g z. one-cell i j (at i h .0) (at i h .2) (subst (λ (x : Item). Carries (cellAt cs j) x) (sym z) (at j g .2));
+        item = λ i h. (at i h).0;
+        needed = λ i h. (at i h).1;
+        different = λ i j h g z. one_cell i j (at i h).0 (at i h).2 (subst (λ (x : Item). Carries (cell_at cs j) x) (sym z) (at j g).2);
       }
     where
       at : (i : ℕ) → i < length cs → Taken i
-      at i h = taken i (lowest-none (free (b .places) cs) cs e i h)
+      at i h = taken i (lowest_none (free b.places cs) cs e i h)
 
   -- with a free cell f: the cells of n different needed writes, and f, would be n + 1 different cells
-  module _ (P : Packed (length cs) L) (f : ℕ) (fl : f < length cs) (ff : free (b .places) cs (cellAt cs f) ≡ true) where
+  module _ (P : Packed (length cs) L) (f : ℕ) (fl : f < length cs) (ff : free b.places cs (cell_at cs f) ≡ true) where
     abbrev n : ℕ
     n = length cs
 
-    cellOf : (i : ℕ) → i < n → ℕ
+    cell_of : (i : ℕ) → i < n → ℕ
     unfolding Holds
-    cellOf i h = held (P .item i h) (P .needed i h) .0
+    cell_of i h = (held (P.item i h) (P.needed i h)).0
 
-    cellOf-low : (i : ℕ) (h : i < n) → cellOf i h < n
-    unfolding Holds cellOf
-    cellOf-low i h = held (P .item i h) (P .needed i h) .1
+    cellOf-low : (i : ℕ) (h : i < n) → cell_of i h < n
+    unfolding Holds cell_of
+    cellOf-low i h = (held (P.item i h) (P.needed i h)).1
 
-    cellOf-taken : (i : ℕ) (h : i < n) → cellOf i h ≡ f → ⊥
-    unfolding Holds cellOf
+    cellOf-taken : (i : ℕ) (h : i < n) → cell_of i h ≡ f → ⊥
+    unfolding Holds cell_of
     cellOf-taken i h e =
-        clash (ap (λ (x : ℕ). free (b .places) cs (cellAt cs x)) e ∙ ff) (held (P .item i h) (P .needed i h) .2)
+        clash (ap (λ (x : ℕ). free b.places cs (cell_at cs x)) e ∙ ff) (held (P.item i h) (P.needed i h)).2
 
-    cellOf-inj : (i j : ℕ) (h : i < n) (g : j < n) → cellOf i h ≡ cellOf j g → i ≡ j
-    unfolding Holds cellOf
+    cellOf-inj : (i j : ℕ) (h : i < n) (g : j < n) → cell_of i h ≡ cell_of j g → i ≡ j
+    unfolding Holds cell_of
     cellOf-inj i j h g e =
-        P .different i j h g
-        (one-item (cellAt cs (held (P .item i h) (P .needed i h) .0)) (P .item i h) (P .item j g) (P .needed i h) (P .needed j g)
-        (held (P .item i h) (P .needed i h) .3)
-        (subst (λ (x : ℕ). Carries (cellAt cs x) (P .item j g)) (sym e) (held (P .item j g) (P .needed j g) .3)))
+        P.different i j h g
+        (one_item (cell_at cs (held (P.item i h) (P.needed i h)).0) (P.item i h) (P.item j g) (P.needed i h) (P.needed j g)
+        (held (P.item i h) (P.needed i h)).3
+        (subst (λ (x : ℕ). Carries (cell_at cs x) (P.item j g)) (sym e) (held (P.item j g) (P.needed j g)).3))
 
     pick : (i : ℕ) → (i < n) ⊎ (n ≤ i) → ℕ
-    pick i (inl h) = cellOf i h
+    pick i (inl h) = cell_of i h
     pick i (inr h) = f
 
-    pick-low : (i : ℕ) (u : (i < n) ⊎ (n ≤ i)) → pick i u < n
+    pick_low : (i : ℕ) (u : (i < n) ⊎ (n ≤ i)) → pick i u < n
     unfolding pick
-    pick-low i (inl h) = cellOf-low i h
-    pick-low i (inr h) = fl
+    pick_low i (inl h) = cellOf-low i h
+    pick_low i (inr h) = fl
 
     pick-inj : (i j : ℕ) (u : (i < n) ⊎ (n ≤ i)) (w : (j < n) ⊎ (n ≤ j)) → i ≤ n → j ≤ n → pick i u ≡ pick j w → i ≡ j
     unfolding pick
@@ -320,13 +320,13 @@ module _ {b : Board} {cs : List Cell} {L : Ledger} (𝓛 : Linked b cs L) where
     pick-inj i j (inr h) (inl g) a c e = absurd (cellOf-taken j g (sym e))
     pick-inj i j (inr h) (inr g) a c e = omega arith
 
-    too-many : ⊥
-    too-many = pigeons n (λ i. pick i (lt? i n)) (λ i h. pick-low i (lt? i n)) (λ i j h g e. pick-inj i j (lt? i n) (lt? j n) h g e)
+    too_many : ⊥
+    too_many = pigeons n (λ i. pick i (lt? i n)) (λ i h. pick_low i (lt? i n)) (λ i j h g e. pick-inj i j (lt? i n) (lt? j n) h g e)
 
-  pub packed-full : Packed (length cs) L → reusable (b .places) cs ≡ Found.Nothing
+  pub packed_full : Packed (length cs) L → reusable b.places cs ≡ Found.Nothing
   unfolding reusable
-  packed-full P = go (reusable (b .places) cs) refl
+  packed_full P = go (reusable b.places cs) refl
     where
-      go : (o : Found) → reusable (b .places) cs ≡ o → o ≡ Found.Nothing
-      go (Found.At i) e = let r = lowest-found (free (b .places) cs) cs i e in absurd (too-many P i (r .inside) (r .passes))
+      go : (o : Found) → reusable b.places cs ≡ o → o ≡ Found.Nothing
+      go (Found.At i) e = let r = lowest_found (free b.places cs) cs i e in absurd (too_many P i r.inside r.passes)
       go Found.Nothing e = refl

@@ -1,198 +1,198 @@
 -- Every answer from a fresh board is the verdict of its history, or FULL at an update that needs a cell; and FULL is exact.
---     all-right, full-right     the two promises of specs/Verdict
+--     all_right, full_right     the two promises of specs/Verdict
 --     decided                   so a ledger and the number of cells decide every answer
 -- Assumes nothing.
-use mathlib.Core.Path.{_≡_, refl, sym, ap, _∙_, subst}
-use mathlib.Core.Logic.{_⊎_, inl, inr, _↔_}
-use mathlib.Core.Bool.{Bool, true, false, not, _&&_, false≢true}
+use mathlib.Core.Path.{◌≡◌, refl, sym, ap, ◌∙◌, subst}
+use mathlib.Core.Logic.{◌⊎◌, inl, inr, ◌↔◌}
+use mathlib.Core.Bool.{Bool, true, false, not, ◌&&◌, false≢true}
 use mathlib.Core.List.{List}
 use mathlib.Core.Option.{Option, none, some}
-use Prim.Native.Nat.{ℕ, zero, suc, _+_, _<_}
+use Prim.Native.Nat.{ℕ, zero, suc, ◌+◌, ◌<◌}
 use native.Mathlib.Nat.{not-suc-le-zero}
 use native.Mathlib.Omega.{arith}
 use lib.Dec.{leb, eqb}
 use lib.ListN.{length, take}
-use borrow.Author.Tests.{leb-true, leb-false, le-leb, eqb-true, eqb-false, eq-eqb, ne-eqb, not-true}
-use Rattle·records.specs.declared.Call.{Call}
-use Rattle·records.specs.declared.Answer.{Answer}
-use Rattle·records.specs.Answers.{numberOf, placeOf}
-use Rattle·cells.specs.declared.Cell.{Cell}
-use Rattle·scans.specs.declared.Found.{Found}
-use Rattle·cells.specs.Cells.{ofKey, foreign, allKeys, countOf}
-use Rattle·cells.specs.Rules.{foreignOf}
-use Rattle·scans.specs.Rules.{foreignWith}
-use Rattle·cells.proofs.Words.{length-cells}
-use Rattle·scans.proofs.Meaning.{has-found, some-has}
-use Rattle·places.specs.declared.State.{State}
-use Rattle·steps.specs.declared.Board.{Board}
-use Rattle·places.specs.Places.{allPlaces, isIdle, isPrepared}
-use Rattle·steps.specs.Record.{placeAt}
-use Rattle·steps.specs.Shape.{inShape}
-use Rattle·checks.specs.Check.{checkOf}
-use Rattle·places.specs.Spent.{holdsBack, heldBack, reusable}
-use Rattle·steps.specs.Store.{Store, Said, Outcome, cellsIn, saidOf}
-use Rattle·steps.specs.Step.{done, facts, readAs, updatedAs, numberAt, readerAt, step}
-use Rattle·steps.specs.Run.{Pair, pairOf}
-use Rattle·laws.proofs.Tests.{two, and-both as both, and-left, and-right, clash, or-cases, or-first, or-second}
-use Rattle·checks.proofs.Cleared.{Cleared, cleared, same-check}
-use Rattle·steps.proofs.Cases.{on-read, on-update, open-of}
-use Rattle·history·specs.specs.History.{Ledger, doneAt, ledger, leave, Contested, Reaches}
-use Rattle·history·specs.specs.Verdict.{anyBelow, isSome, wroteKey, contested, hidden, checksOf, due, verdict, NeedsCell, Packed, Answers, Right}
-use Rattle·history·specs.specs.Verdict.{AllRight, FullRight, Decided}
-use Rattle·history·proofs.proofs.Basics.{cases, eq?, none-some}
-use Rattle·places.proofs.Spent.{place-found, some-place}
-use Rattle·history·proofs.proofs.Facts.{cellAt, Draft, in-cells, own-draft, foreign-facts, foreign-of}
-use Rattle·history·proofs.proofs.Link.{wrote, Linked, inside, same-place, own-cell}
-use Rattle·history·proofs.proofs.Seen.{open-busy, not-written, live-read, conflict-contested, contested-conflict}
-use Rattle·history·proofs.proofs.Demand.{reaches, at, empty-count}
-use Rattle·history·proofs.proofs.Full.{full-packed, packed-full}
+use borrow.Author.Tests.{leb-true, leb-false, le-leb, eqb-true, eqb-false, eq-eqb, ne_eqb, not-true}
+use Rattle.records.specs.declared.Call.{Call}
+use Rattle.records.specs.declared.Answer.{Answer}
+use Rattle.records.specs.Answers.{number_of, place_of}
+use Rattle.cells.specs.declared.Cell.{Cell}
+use Rattle.scans.specs.declared.Found.{Found}
+use Rattle.cells.specs.Cells.{of_key, foreign, all_keys, count_of}
+use Rattle.cells.specs.Rules.{foreign_of}
+use Rattle.scans.specs.Rules.{foreign_with}
+use Rattle.cells.proofs.Words.{length_cells}
+use Rattle.scans.proofs.Meaning.{has_found, some_has}
+use Rattle.places.specs.declared.State.{State}
+use Rattle.steps.specs.declared.Board.{Board}
+use Rattle.places.specs.Places.{all_places, is_idle, is_prepared}
+use Rattle.steps.specs.Record.{place_at}
+use Rattle.steps.specs.Shape.{in_shape}
+use Rattle.checks.specs.Check.{check_of}
+use Rattle.places.specs.Spent.{holds_back, held_back, reusable}
+use Rattle.steps.specs.Store.{Store, Said, Outcome, cells_in, said_of}
+use Rattle.steps.specs.Step.{done, facts, read_as, updated_as, number_at, reader_at, step}
+use Rattle.steps.specs.Run.{Pair, pair_of}
+use Rattle.laws.proofs.Tests.{two, and_both as both, and_left, and_right, clash, or_cases, or_first, or_second}
+use Rattle.checks.proofs.Cleared.{Cleared, cleared, same_check}
+use Rattle.steps.proofs.Cases.{on_read, on_update, open_of}
+use Rattle.history.specs.History.{Ledger, done_at, ledger, leave, Contested, Reaches}
+use Rattle.history.specs.Verdict.{any_below, is_some, wrote_key, contested, hidden, checks_of, due, verdict, NeedsCell, Packed, Answers, Right}
+use Rattle.history.specs.Verdict.{AllRight, FullRight, Decided}
+use Rattle.history.proofs.Basics.{cases, eq?, none_some}
+use Rattle.places.proofs.Spent.{place_found, some_place}
+use Rattle.history.proofs.Facts.{cell_at, Draft, in_cells, own_draft, foreign_facts, foreign_of_lem}
+use Rattle.history.proofs.Link.{wrote, Linked, inside, same_place, own_cell}
+use Rattle.history.proofs.Seen.{open_busy, not_written, live_read, conflict_contested, contested_conflict}
+use Rattle.history.proofs.Demand.{reaches, at, empty_count}
+use Rattle.history.proofs.Full.{full_packed, packed_full}
 
 -- THE HISTORY'S TESTS AS FACTS
 
-some-of : (o : Option ℕ) → isSome o ≡ true → (v : ℕ) × (o ≡ some v)
-some-of none e = absurd (false≢true e)
-some-of (some v) e = (v, refl)
+some_of : (o : Option ℕ) → is_some o ≡ true → (v : ℕ) × (o ≡ some v)
+some_of none e = absurd (false≢true e)
+some_of (some v) e = (v, refl)
 
-below-true : (n : ℕ) (t : ℕ → Bool) → anyBelow n t ≡ true → (q : ℕ) × (q < n) × (t q ≡ true)
-unfolding anyBelow
-below-true zero t e = absurd (false≢true e)
-below-true (suc n) t e = cases (or-cases (t n) (anyBelow n t) e)
+below_true : (n : ℕ) (t : ℕ → Bool) → any_below n t ≡ true → (q : ℕ) × (q < n) × (t q ≡ true)
+unfolding any_below
+below_true zero t e = absurd (false≢true e)
+below_true (suc n) t e = cases (or_cases (t n) (any_below n t) e)
     (λ h. (n, omega arith, h))
-    (λ h. let r = below-true n t h in (r .0, omega (arith, r .1), r .2))
+    (λ h. let r = below_true n t h in (r.0, omega (arith, r.1), r.2))
 
-below-at : (n : ℕ) (t : ℕ → Bool) (q : ℕ) → q < n → t q ≡ true → anyBelow n t ≡ true
-unfolding anyBelow
-below-at zero t q h e = absurd (not-suc-le-zero h)
-below-at (suc n) t q h e = cases (eq? q n)
-    (λ z. or-first (t n) (anyBelow n t) (subst (λ (m : ℕ). t m ≡ true) z e))
-    (λ z. or-second (t n) (anyBelow n t) (below-at n t q (omega arith) e))
+below_at : (n : ℕ) (t : ℕ → Bool) (q : ℕ) → q < n → t q ≡ true → any_below n t ≡ true
+unfolding any_below
+below_at zero t q h e = absurd (not-suc-le-zero h)
+below_at (suc n) t q h e = cases (eq? q n)
+    (λ z. or_first (t n) (any_below n t) (subst (λ (m : ℕ). t m ≡ true) z e))
+    (λ z. or_second (t n) (any_below n t) (below_at n t q (omega arith) e))
 
 module _ (L : Ledger) (p k : ℕ) where
   abbrev another : ℕ → Bool
-  another q = not (eqb q p) && wroteKey (L .at q .did) k
+  another q = not (eqb q p) && wrote_key (L.at q).did k
 
   abbrev since : ℕ → Bool
-  since m = leb (L .at p .seen) m && wroteKey (doneAt L m .did) k
+  since m = leb (L.at p).seen m && wrote_key (done_at L m).did k
 
-  contested-of : contested L p k ≡ true → Contested L p k
-  contested-of e = cases (or-cases (anyBelow allPlaces another) (anyBelow (length (L .past)) since) e)
+  contested_of : contested L p k ≡ true → Contested L p k
+  contested_of e = cases (or_cases (any_below all_places another) (any_below (length L.past) since) e)
       (λ h.
-      let r = below-true allPlaces another h in
-      let d = eqb-false _ _ (not-true _ (and-left (not (eqb (r .0) p)) (wroteKey (L .at (r .0) .did) k) (r .2))) in
-      inl (r .0, r .1, d, some-of _ (and-right (not (eqb (r .0) p)) (wroteKey (L .at (r .0) .did) k) (r .2))))
+      let r = below_true all_places another h in
+      let d = eqb-false _ _ (not-true _ (and_left (not (eqb r.0 p)) (wrote_key (L.at r.0).did k) r.2)) in
+      inl (r.0, r.1, d, some_of _ (and_right (not (eqb r.0 p)) (wrote_key (L.at r.0).did k) r.2)))
       (λ h.
-      let r = below-true (length (L .past)) since h in
-      let l = leb-true _ _ (and-left (leb (L .at p .seen) (r .0)) (wroteKey (doneAt L (r .0) .did) k) (r .2)) in
-      inr (r .0, l, r .1, some-of _ (and-right (leb (L .at p .seen) (r .0)) (wroteKey (doneAt L (r .0) .did) k) (r .2))))
+      let r = below_true (length L.past) since h in
+      let l = leb-true _ _ (and_left (leb (L.at p).seen r.0) (wrote_key (done_at L r.0).did k) r.2) in
+      inr (r.0, l, r.1, some_of _ (and_right (leb (L.at p).seen r.0) (wrote_key (done_at L r.0).did k) r.2)))
 
-  pub of-contested : Contested L p k → contested L p k ≡ true
-  of-contested c = cases c
-      (λ u. or-first (anyBelow allPlaces another) (anyBelow (length (L .past)) since)
-      (below-at allPlaces another (u .0) (u .1) (both (ap not (ne-eqb _ _ (u .2))) (ap isSome (u .3 .1)))))
-      (λ u. or-second (anyBelow allPlaces another) (anyBelow (length (L .past)) since)
-      (below-at (length (L .past)) since (u .0) (u .2) (both (le-leb _ _ (u .1)) (ap isSome (u .3 .1)))))
+  pub of_contested : Contested L p k → contested L p k ≡ true
+  of_contested c = cases c
+      (λ u. or_first (any_below all_places another) (any_below (length L.past) since)
+      (below_at all_places another u.0 u.1 (both (ap not (ne_eqb _ _ u.2)) (ap is_some u.3.1))))
+      (λ u. or_second (any_below all_places another) (any_below (length L.past) since)
+      (below_at (length L.past) since u.0 u.2 (both (le-leb _ _ u.1) (ap is_some u.3.1))))
 
-  not-contested : (Contested L p k → ⊥) → contested L p k ≡ false
-  not-contested n = cases (two (contested L p k)) (λ e. absurd (n (contested-of e))) (λ e. e)
+  not_contested : (Contested L p k → ⊥) → contested L p k ≡ false
+  not_contested n = cases (two (contested L p k)) (λ e. absurd (n (contested_of e))) (λ e. e)
 
-prepared-busy : (s : State) → isPrepared s ≡ true → not (isIdle s) ≡ true
-prepared-busy State.Idle e = absurd (false≢true e)
-prepared-busy State.Open e = refl
-prepared-busy State.Spoiled e = refl
-prepared-busy State.Prepared e = refl
+prepared_busy : (s : State) → is_prepared s ≡ true → not (is_idle s) ≡ true
+prepared_busy State.Idle e = absurd (false≢true e)
+prepared_busy State.Open e = refl
+prepared_busy State.Spoiled e = refl
+prepared_busy State.Prepared e = refl
 
 -- A FOREIGN PREPARED CELL IS A PREPARED TRANSACTION'S WRITE
 module _ {b : Board} {cs : List Cell} {L : Ledger} (𝓛 : Linked b cs L) (p k : ℕ) where
   abbrev prepared : ℕ → Bool
-  prepared q = isPrepared (L .at q .state) && wroteKey (L .at q .did) k
+  prepared q = is_prepared (L.at q).state && wrote_key (L.at q).did k
 
-  foreign-cell : (u : ℕ) → foreignWith k (numberAt b p) u cs ≡ true → (i : ℕ) × Draft (cellAt cs i) u k
-  unfolding foreignWith
-  foreign-cell u e =
-      let r = has-found (foreignOf k (numberAt b p) u) cs e in
-      let c = cellAt cs (r .at) in
-      let a = and-right (ofKey k c) (foreign (numberAt b p) c && eqb (c .number) u) (r .passes) in (
-        r .at,
+  foreign_cell : (u : ℕ) → foreign_with k (number_at b p) u cs ≡ true → (i : ℕ) × Draft (cell_at cs i) u k
+  unfolding foreign_with
+  foreign_cell u e =
+      let r = has_found (foreign_of k (number_at b p) u) cs e in
+      let c = cell_at cs r.at in
+      let a = and_right (of_key k c) (foreign (number_at b p) c && eqb c.number u) r.passes in (
+        r.at,
         record {
-          word = eqb-true _ _ (and-left (ofKey k c) (foreign (numberAt b p) c && eqb (c .number) u) (r .passes));
-          commit = foreign-facts c (numberAt b p) (and-left (foreign (numberAt b p) c) (eqb (c .number) u) a) .0;
-          number = eqb-true _ _ (and-right (foreign (numberAt b p) c) (eqb (c .number) u) a);
+          word = eqb-true _ _ (and_left (of_key k c) (foreign (number_at b p) c && eqb c.number u) r.passes);
+          commit = (foreign_facts c (number_at b p) (and_left (foreign (number_at b p) c) (eqb c.number u) a)).0;
+          number = eqb-true _ _ (and_right (foreign (number_at b p) c) (eqb c.number u) a);
         },
       )
 
-  cell-foreign : (u i : ℕ) → Draft (cellAt cs i) u k → (u ≡ numberAt b p → ⊥) → foreignWith k (numberAt b p) u cs ≡ true
-  unfolding foreignWith
-  cell-foreign u i d n =
-      some-has (foreignOf k (numberAt b p) u) cs i (in-cells cs i k (d .word))
-      (both (eq-eqb _ _ (d .word)) (both (foreign-of (cellAt cs i) (numberAt b p) u k d n) (eq-eqb _ _ (d .number))))
+  cell_foreign : (u i : ℕ) → Draft (cell_at cs i) u k → (u ≡ number_at b p → ⊥) → foreign_with k (number_at b p) u cs ≡ true
+  unfolding foreign_with
+  cell_foreign u i d n =
+      some_has (foreign_of k (number_at b p) u) cs i (in_cells cs i k d.word)
+      (both (eq-eqb _ _ d.word) (both (foreign_of_lem (cell_at cs i) (number_at b p) u k d n) (eq-eqb _ _ d.number)))
 
-  held-hidden : heldBack k (numberAt b p) (b .places) cs ≡ true → hidden L k ≡ true
-  unfolding heldBack
-  held-hidden e =
-      let g = place-found (holdsBack k (numberAt b p) cs) (b .places) e in
-      let q = g .at in
-      let x = placeAt b q in
-      let l : q < allPlaces = omega (arith, g .inside, 𝓛 .places .sixteen) in
-      let s = and-left (isPrepared (x .state)) (foreignWith k (numberAt b p) (x .number) cs) (g .passes) in
-      let r = foreign-cell (x .number) (and-right (isPrepared (x .state)) (foreignWith k (numberAt b p) (x .number) cs) (g .passes)) in
-      let w = own-cell 𝓛 q (r .0) k l (prepared-busy (x .state) s) (r .1) in
-      below-at allPlaces prepared q l (both (ap isPrepared (sym (𝓛 .places .placed q l .state)) ∙ s) (ap isSome w))
+  held_hidden : held_back k (number_at b p) b.places cs ≡ true → hidden L k ≡ true
+  unfolding held_back
+  held_hidden e =
+      let g = place_found (holds_back k (number_at b p) cs) b.places e in
+      let q = g.at in
+      let x = place_at b q in
+      let l : q < all_places = omega (arith, g.inside, 𝓛.places.sixteen) in
+      let s = and_left (is_prepared x.state) (foreign_with k (number_at b p) x.number cs) g.passes in
+      let r = foreign_cell x.number (and_right (is_prepared x.state) (foreign_with k (number_at b p) x.number cs) g.passes) in
+      let w = own_cell 𝓛 q r.0 k l (prepared_busy x.state s) r.1 in
+      below_at all_places prepared q l (both (ap is_prepared (sym (𝓛.places.placed q l).state) ∙ s) (ap is_some w))
 
-  hidden-held : p < allPlaces → placeAt b p .state ≡ State.Open → hidden L k ≡ true → heldBack k (numberAt b p) (b .places) cs ≡ true
-  unfolding heldBack
-  hidden-held l o e =
-      let r = below-true allPlaces prepared e in
-      let q = r .0 in
-      let s : isPrepared (placeAt b q .state) ≡ true =
-      ap isPrepared (𝓛 .places .placed q (r .1) .state) ∙ and-left (isPrepared (L .at q .state)) (wroteKey (L .at q .did) k) (r .2) in
-      let w = some-of _ (and-right (isPrepared (L .at q .state)) (wroteKey (L .at q .did) k) (r .2)) in
-      let d = 𝓛 .cells .drafted q k (w .0) (r .1) (w .1) in
-      let n : numberAt b q ≡ numberAt b p → ⊥ =
-      λ z. let y = same-place 𝓛 q p (r .1) l (prepared-busy (placeAt b q .state) s) (open-busy 𝓛 p o) z in
-      clash s (ap (λ (x : ℕ). isPrepared (placeAt b x .state)) y ∙ ap isPrepared o) in
-      some-place (holdsBack k (numberAt b p) cs) (b .places) q (inside 𝓛 (r .1)) (both s (cell-foreign (numberAt b q) (d .0) (d .1) n))
+  hidden_held : p < all_places → (place_at b p).state ≡ State.Open → hidden L k ≡ true → held_back k (number_at b p) b.places cs ≡ true
+  unfolding held_back
+  hidden_held l o e =
+      let r = below_true all_places prepared e in
+      let q = r.0 in
+      let s : is_prepared (place_at b q).state ≡ true =
+      ap is_prepared (𝓛.places.placed q r.1).state ∙ and_left (is_prepared (L.at q).state) (wrote_key (L.at q).did k) r.2 in
+      let w = some_of _ (and_right (is_prepared (L.at q).state) (wrote_key (L.at q).did k) r.2) in
+      let d = 𝓛.cells.drafted q k w.0 r.1 w.1 in
+      let n : number_at b q ≡ number_at b p → ⊥ =
+      λ z. let y = same_place 𝓛 q p r.1 l (prepared_busy (place_at b q).state s) (open_busy 𝓛 p o) z in
+      clash s (ap (λ (x : ℕ). is_prepared (place_at b x).state) y ∙ ap is_prepared o) in
+      some_place (holds_back k (number_at b p) cs) b.places q (inside 𝓛 r.1) (both s (cell_foreign (number_at b q) d.0 d.1 n))
 
-  not-hidden : p < allPlaces → placeAt b p .state ≡ State.Open → heldBack k (numberAt b p) (b .places) cs ≡ false → hidden L k ≡ false
-  not-hidden l o e = cases (two (hidden L k)) (λ h. clash (hidden-held l o h) e) (λ h. h)
+  not_hidden : p < all_places → (place_at b p).state ≡ State.Open → held_back k (number_at b p) b.places cs ≡ false → hidden L k ≡ false
+  not_hidden l o e = cases (two (hidden L k)) (λ h. clash (hidden_held l o h) e) (λ h. h)
 
 -- THE CHECKS
 
-module _ (st : Store) (L : Ledger) (s : inShape (st .board) (length (st .words)) ≡ true) (𝓛 : Linked (st .board) (cellsIn st) L) where
+module _ (st : Store) (L : Ledger) (s : in_shape st.board (length st.words) ≡ true) (𝓛 : Linked st.board (cells_in st) L) where
   abbrev b : Board
-  b = st .board
+  b = st.board
 
   abbrev cs : List Cell
-  cs = cellsIn st
+  cs = cells_in st
 
   -- the ledger's checks are the board's
-  same-checks : (c : Call) → checkOf (facts st c) ≡ checksOf L c
-  same-checks c =
-      rw (s, 𝓛 .counts .begun)
-      (same-check true (placeAt b (placeOf c) .state) (L .at (placeOf c) .state) (L .starts) c (λ l. 𝓛 .places .placed (placeOf c) l .state))
+  same_checks : (c : Call) → check_of (facts st c) ≡ checks_of L c
+  same_checks c =
+      rw (s, 𝓛.counts.begun)
+      (same_check true (place_at b (place_of c)).state (L.at (place_of c)).state L.starts c (λ l. (𝓛.places.placed (place_of c) l).state))
 
   -- THE STEPS PROPER
   -- what the step says is due; or it is FULL
   abbrev Due : Call → Outcome → Type 0
-  Due c o = (o .said ≡ saidOf (due L c)) ⊎ ((o .said ≡ saidOf Answer.Full) × NeedsCell L c)
+  Due c o = (o.said ≡ said_of (due L c)) ⊎ ((o.said ≡ said_of Answer.Full) × NeedsCell L c)
 
-  read-due : (p k : ℕ) → p < allPlaces → placeAt b p .state ≡ State.Open → Due (Call.Read p k) (readAs st p k)
-  read-due p k l o =
-      on-read (Due (Call.Read p k)) st p k
-      (λ i f. inl (rw (own-cell 𝓛 p i k l (open-busy 𝓛 p o) (own-draft (numberAt b p) k cs i f)) refl))
-      (λ n t. inl (rw (not-written 𝓛 p k l n, held-hidden 𝓛 p k t) refl))
-      (λ n t. inl (rw (not-written 𝓛 p k l n, not-hidden 𝓛 p k l o t)
-      (ap (λ (v : ℕ). saidOf (Answer.Ok v))
-      (live-read 𝓛 (readerAt b p) (inr (p, l, o, refl)) k
-      ∙ ap (λ (w : ℕ). leave (take w (L .past)) k) (𝓛 .places .placed p l .view)))))
+  read_due : (p k : ℕ) → p < all_places → (place_at b p).state ≡ State.Open → Due (Call.Read p k) (read_as st p k)
+  read_due p k l o =
+      on_read (Due (Call.Read p k)) st p k
+      (λ i f. inl (rw (own_cell 𝓛 p i k l (open_busy 𝓛 p o) (own_draft (number_at b p) k cs i f)) refl))
+      (λ n t. inl (rw (not_written 𝓛 p k l n, held_hidden 𝓛 p k t) refl))
+      (λ n t. inl (rw (not_written 𝓛 p k l n, not_hidden 𝓛 p k l o t)
+      (ap (λ (v : ℕ). said_of (Answer.Ok v))
+      (live_read 𝓛 (reader_at b p) (inr (p, l, o, refl)) k
+      ∙ ap (λ (w : ℕ). leave (take w L.past) k) (𝓛.places.placed p l).view))))
 
-  update-due : (p k v : ℕ) → p < allPlaces → placeAt b p .state ≡ State.Open → leb allKeys k ≡ false
-      → Due (Call.Update p k v) (updatedAs st p k v)
-  update-due p k v l o m =
-      let h = open-busy 𝓛 p o in
-      on-update (Due (Call.Update p k v)) st p k v
-      (λ i f. inl (rw (own-cell 𝓛 p i k l h (own-draft (numberAt b p) k cs i f)) refl))
-      (λ n t. inl (rw (not-written 𝓛 p k l n, of-contested L p k (conflict-contested 𝓛 p k l t)) refl))
-      (λ n t i _. inl (rw (not-written 𝓛 p k l n, not-contested L p k (λ c. clash (contested-conflict 𝓛 p k l h c) t)) refl))
+  update_due : (p k v : ℕ) → p < all_places → (place_at b p).state ≡ State.Open → leb all_keys k ≡ false
+      → Due (Call.Update p k v) (updated_as st p k v)
+  update_due p k v l o m =
+      let h = open_busy 𝓛 p o in
+      on_update (Due (Call.Update p k v)) st p k v
+      (λ i f. inl (rw (own_cell 𝓛 p i k l h (own_draft (number_at b p) k cs i f)) refl))
+      (λ n t. inl (rw (not_written 𝓛 p k l n, of_contested L p k (conflict_contested 𝓛 p k l t)) refl))
+      (λ n t i _. inl (rw (not_written 𝓛 p k l n, not_contested L p k (λ c. clash (contested_conflict 𝓛 p k l h c) t)) refl))
       (λ n t _. inr (
         refl,
         record {
@@ -201,102 +201,102 @@ module _ (st : Store) (L : Ledger) (s : inShape (st .board) (length (st .words))
           value = v;
           call = refl;
           reaches =
-              record { place = l; key = leb-false _ _ m; state = sym (𝓛 .places .placed p l .state) ∙ o; first = not-written 𝓛 p k l n };
-          clear = not-contested L p k (λ c. clash (contested-conflict 𝓛 p k l h c) t);
+              record { place = l; key = leb-false _ _ m; state = sym (𝓛.places.placed p l).state ∙ o; first = not_written 𝓛 p k l n };
+          clear = not_contested L p k (λ c. clash (contested_conflict 𝓛 p k l h c) t);
         },
       ))
 
-  done-due : (c : Call) → Cleared (facts st c) → Due c (done st c)
-  done-due (Call.Start p) g = inl (ap (λ (n : ℕ). saidOf (Answer.Ok (n + 1))) (𝓛 .counts .begun))
-  done-due (Call.Read p k) g = read-due p k (leb-false _ _ (g Answer.Place)) (open-of (placeAt b p .state) (g Answer.Idle) (g Answer.Spoiled) (g Answer.Held))
-  done-due (Call.Update p k v) g =
-      update-due p k v (leb-false _ _ (g Answer.Place)) (open-of (placeAt b p .state) (g Answer.Idle) (g Answer.Spoiled) (g Answer.Held)) (g Answer.Key)
-  done-due (Call.Prepare p) g = inl refl
-  done-due (Call.Commit p) g = inl (ap (λ (n : ℕ). saidOf (Answer.Ok (n + 1))) (𝓛 .counts .counted))
-  done-due (Call.Rollback p) g = inl refl
+  done_due : (c : Call) → Cleared (facts st c) → Due c (done st c)
+  done_due (Call.Start p) g = inl (ap (λ (n : ℕ). said_of (Answer.Ok (n + 1))) 𝓛.counts.begun)
+  done_due (Call.Read p k) g = read_due p k (leb-false _ _ (g Answer.Place)) (open_of (place_at b p).state (g Answer.Idle) (g Answer.Spoiled) (g Answer.Held))
+  done_due (Call.Update p k v) g =
+      update_due p k v (leb-false _ _ (g Answer.Place)) (open_of (place_at b p).state (g Answer.Idle) (g Answer.Spoiled) (g Answer.Held)) (g Answer.Key)
+  done_due (Call.Prepare p) g = inl refl
+  done_due (Call.Commit p) g = inl (ap (λ (n : ℕ). said_of (Answer.Ok (n + 1))) 𝓛.counts.counted)
+  done_due (Call.Rollback p) g = inl refl
 
   -- EVERY CALL
-  step-right : (c : Call) → Right L (pairOf st c)
+  step_right : (c : Call) → Right L (pair_of st c)
   unfolding step verdict
-  step-right c = cases (two (eqb (numberOf (checksOf L c)) 0))
-      (λ e. rw (same-checks c, e) (done-due c (cleared (facts st c) (ap numberOf (same-checks c) ∙ eqb-true _ _ e))))
-      (λ e. inl (rw (same-checks c, e) refl))
+  step_right c = cases (two (eqb (number_of (checks_of L c)) 0))
+      (λ e. rw (same_checks c, e) (done_due c (cleared (facts st c) (ap number_of (same_checks c) ∙ eqb-true _ _ e))))
+      (λ e. inl (rw (same_checks c, e) refl))
 
   -- FULL
-  full-exact : (p k v : ℕ) → Reaches L p k → contested L p k ≡ false
-      → (step st (Call.Update p k v) .said .number ≡ numberOf Answer.Full) ↔ Packed (length cs) L
-  full-exact p k v r c =
-      let o = 𝓛 .places .placed p (r .place) .state ∙ r .state in
-      let P : Outcome → Type 0 = λ x. (x .said .number ≡ numberOf Answer.Full) ↔ Packed (length cs) L in
-      rw (reaches st L s 𝓛 p k v (r .place) (r .key) o)
-      (on-update P st p k v
-      (λ i f. none-some (wrote L p k) (cellAt cs i .value) (r .first)
-      (own-cell 𝓛 p i k (r .place) (open-busy 𝓛 p o) (own-draft (numberAt b p) k cs i f)))
-      (λ n t. clash (of-contested L p k (conflict-contested 𝓛 p k (r .place) t)) c)
-      (λ n t i f. (λ e. absurd (omega arith), λ q. absurd (nothing-found (reusable (b .places) cs) i f (packed-full 𝓛 q))))
-      (λ n t f. (λ _. full-packed 𝓛 f, λ _. refl)))
+  full_exact : (p k v : ℕ) → Reaches L p k → contested L p k ≡ false
+      → ((step st (Call.Update p k v)).said.number ≡ number_of Answer.Full) ↔ Packed (length cs) L
+  full_exact p k v r c =
+      let o = (𝓛.places.placed p r.place).state ∙ r.state in
+      let P : Outcome → Type 0 = λ x. (x.said.number ≡ number_of Answer.Full) ↔ Packed (length cs) L in
+      rw (reaches st L s 𝓛 p k v r.place r.key o)
+      (on_update P st p k v
+      (λ i f. none_some (wrote L p k) (cell_at cs i).value r.first
+      (own_cell 𝓛 p i k r.place (open_busy 𝓛 p o) (own_draft (number_at b p) k cs i f)))
+      (λ n t. clash (of_contested L p k (conflict_contested 𝓛 p k r.place t)) c)
+      (λ n t i f. (λ e. absurd (omega arith), λ q. absurd (nothing-found (reusable b.places cs) i f (packed_full 𝓛 q))))
+      (λ n t f. (λ _. full_packed 𝓛 f, λ _. refl)))
     where
       nothing-found : (x : Found) (i : ℕ) → x ≡ Found.At i → x ≡ Found.Nothing → ⊥
-      nothing-found x i e f = let z : _≡_ {A = ℕ} 0 1 = cc in omega arith
+      nothing-found x i e f = let z : ◌≡◌ {A = ℕ} 0 1 = cc in omega arith
 
-pub all-right : AllRight
-all-right n h l calls before after x e =
+pub all_right : AllRight
+all_right n h l calls before after x e =
     let s = at n h l calls before after x e in
-    let r = step-right (s .store) (ledger before) (s .shape) (s .linked) (x .call) in
-    rw (← (s .said)) at r
+    let r = step_right s.store (ledger before) s.shape s.linked x.call in
+    rw (← s.said) at r
 
-pub full-right : FullRight
-full-right n h l calls before after x e need =
+pub full_right : FullRight
+full_right n h l calls before after x e need =
     let s = at n h l calls before after x e in
-    let c = Call.Update (need .place) (need .key) (need .value) in
-    let y : x .said .number ≡ step (s .store) c .said .number =
-    ap (λ (x : Said). x .number) (s .said) ∙ ap (λ (c : Call). step (s .store) c .said .number) (need .call) in
-    let m : length (cellsIn (s .store)) ≡ n = length-cells (s .store .words) ∙ ap countOf (s .sized) ∙ empty-count n in
-    let r = full-exact (s .store) (ledger before) (s .shape) (s .linked) (need .place) (need .key) (need .value) (need .reaches) (need .clear) in
-    subst (λ (u : ℕ). (u ≡ numberOf Answer.Full) ↔ Packed n (ledger before)) (sym y)
-    (subst (λ (j : ℕ). (step (s .store) c .said .number ≡ numberOf Answer.Full) ↔ Packed j (ledger before)) m r)
+    let c = Call.Update need.place need.key need.value in
+    let y : x.said.number ≡ (step s.store c).said.number =
+    ap (λ (x : Said). x.number) s.said ∙ ap (λ (c : Call). (step s.store c).said.number) need.call in
+    let m : length (cells_in s.store) ≡ n = length_cells s.store.words ∙ ap count_of s.sized ∙ empty_count n in
+    let r = full_exact s.store (ledger before) s.shape s.linked need.place need.key need.value need.reaches need.clear in
+    subst (λ (u : ℕ). (u ≡ number_of Answer.Full) ↔ Packed n (ledger before)) (sym y)
+    (subst (λ (j : ℕ). ((step s.store c).said.number ≡ number_of Answer.Full) ↔ Packed j (ledger before)) m r)
 
 -- A LEDGER AND THE NUMBER OF CELLS DECIDE
 
-is-full : (a : Answer) → numberOf a ≡ 11 → a ≡ Answer.Full
-is-full (Answer.Ok v) e = absurd (omega arith)
-is-full Answer.Board e = absurd (omega arith)
-is-full Answer.Place e = absurd (omega arith)
-is-full Answer.Busy e = absurd (omega arith)
-is-full Answer.Idle e = absurd (omega arith)
-is-full Answer.Worn e = absurd (omega arith)
-is-full Answer.Spoiled e = absurd (omega arith)
-is-full Answer.Held e = absurd (omega arith)
-is-full Answer.Key e = absurd (omega arith)
-is-full Answer.Conflict e = absurd (omega arith)
-is-full Answer.Prepared e = absurd (omega arith)
-is-full Answer.Full e = refl
-is-full Answer.Record e = absurd (omega arith)
+is_full : (a : Answer) → number_of a ≡ 11 → a ≡ Answer.Full
+is_full (Answer.Ok v) e = absurd (omega arith)
+is_full Answer.Board e = absurd (omega arith)
+is_full Answer.Place e = absurd (omega arith)
+is_full Answer.Busy e = absurd (omega arith)
+is_full Answer.Idle e = absurd (omega arith)
+is_full Answer.Worn e = absurd (omega arith)
+is_full Answer.Spoiled e = absurd (omega arith)
+is_full Answer.Held e = absurd (omega arith)
+is_full Answer.Key e = absurd (omega arith)
+is_full Answer.Conflict e = absurd (omega arith)
+is_full Answer.Prepared e = absurd (omega arith)
+is_full Answer.Full e = refl
+is_full Answer.Record e = absurd (omega arith)
 
 module _ (n : ℕ) (L : Ledger) where
   abbrev ExactFull : Pair → Type 0
-  ExactFull x = NeedsCell L (x .call) → (x .said .number ≡ numberOf Answer.Full) ↔ Packed n L
+  ExactFull x = NeedsCell L x.call → (x.said.number ≡ number_of Answer.Full) ↔ Packed n L
 
   -- one has the verdict, the other FULL
-  mixed : (x y : Pair) → x .call ≡ y .call → ExactFull x → ExactFull y → Answers x (verdict L (x .call))
-      → Answers y Answer.Full → NeedsCell L (y .call) → x .said ≡ y .said
+  mixed : (x y : Pair) → x.call ≡ y.call → ExactFull x → ExactFull y → Answers x (verdict L x.call)
+      → Answers y Answer.Full → NeedsCell L y.call → x.said ≡ y.said
   mixed x y c f g a b need =
-      let number : (s t : Said) → s ≡ t → s .number ≡ t .number = λ s t. ap (λ (u : Said). u .number) in
-      let e : x .said .number ≡ 11 = f (subst (λ (d : Call). NeedsCell L d) (sym c) need) .1 (g need .0 (number _ _ b)) in
-      a ∙ ap saidOf (is-full (verdict L (x .call)) (sym (number _ _ a) ∙ e)) ∙ sym b
+      let number : (s t : Said) → s ≡ t → s.number ≡ t.number = λ s t. ap (λ (u : Said). u.number) in
+      let e : x.said.number ≡ 11 = (f (subst (λ (d : Call). NeedsCell L d) (sym c) need)).1 ((g need).0 (number _ _ b)) in
+      a ∙ ap said_of (is_full (verdict L x.call) (sym (number _ _ a) ∙ e)) ∙ sym b
 
-  agree : (x y : Pair) → x .call ≡ y .call → ExactFull x → ExactFull y → Right L x → Right L y → x .said ≡ y .said
-  agree x y c f g r r′ = cases r
-      (λ a. cases r′
-      (λ b. a ∙ ap (λ (d : Call). saidOf (verdict L d)) c ∙ sym b)
-      (λ b. mixed x y c f g a (b .0) (b .1)))
-      (λ a. cases r′
-      (λ b. sym (mixed y x (sym c) g f b (a .0) (a .1)))
-      (λ b. a .0 ∙ sym (b .0)))
+  agree : (x y : Pair) → x.call ≡ y.call → ExactFull x → ExactFull y → Right L x → Right L y → x.said ≡ y.said
+  agree x y c f g r r' = cases r
+      (λ a. cases r'
+      (λ b. a ∙ ap (λ (d : Call). said_of (verdict L d)) c ∙ sym b)
+      (λ b. mixed x y c f g a b.0 b.1))
+      (λ a. cases r'
+      (λ b. sym (mixed y x (sym c) g f b a.0 a.1))
+      (λ b. a.0 ∙ sym b.0))
 
 pub decided : Decided
-decided n h l calls calls′ before after before′ after′ x y e e′ same c =
-    agree n (ledger before) x y c (full-right n h l calls before after x e)
-    (subst (λ (L : Ledger). ExactFull n L y) (sym same) (full-right n h l calls′ before′ after′ y e′))
-    (all-right n h l calls before after x e)
-    (subst (λ (L : Ledger). Right L y) (sym same) (all-right n h l calls′ before′ after′ y e′))
+decided n h l calls calls' before after before' after' x y e e' same c =
+    agree n (ledger before) x y c (full_right n h l calls before after x e)
+    (subst (λ (L : Ledger). ExactFull n L y) (sym same) (full_right n h l calls' before' after' y e'))
+    (all_right n h l calls before after x e)
+    (subst (λ (L : Ledger). Right L y) (sym same) (all_right n h l calls' before' after' y e'))

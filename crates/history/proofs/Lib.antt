@@ -1,5 +1,5 @@
--- Laws by subject, then the theorems: Demand (demand3), Judge (all-right, full-right, decided), Axioms (snapshot-isolation),
--- Examples, and Bytes (desk-tells, serve-tells, desk-only).
+-- Laws by subject, then the theorems: Demand (demand3), Judge (all_right, full_right, decided), Axioms (snapshot_isolation),
+-- Examples, and Bytes (desk_tells, serve_tells, desk_only).
 pub mod Basics
 pub mod Facts
 pub mod Leave

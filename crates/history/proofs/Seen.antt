@@ -1,173 +1,173 @@
 -- What a linked board answers to a read, what it holds, and when it refuses an update for conflict.
 -- Assumes nothing.
-use mathlib.Core.Path.{_≡_, refl, sym, ap, _∙_}
-use mathlib.Core.Logic.{inl, inr, _↔_}
+use mathlib.Core.Path.{◌≡◌, refl, sym, ap, ◌∙◌}
+use mathlib.Core.Logic.{inl, inr, ◌↔◌}
 use mathlib.Core.Bool.{Bool, true, false}
-use mathlib.Core.List.{List, [], _∷_}
+use mathlib.Core.List.{List, [], ◌∷◌}
 use mathlib.Core.Option.{none}
-use Prim.Native.Nat.{ℕ, suc, _+_, _≤_, _<_}
+use Prim.Native.Nat.{ℕ, suc, ◌+◌, ◌≤◌, ◌<◌}
 use native.Mathlib.Omega.{arith}
 use lib.ListN.{length, take}
 use lib.Seq.{take-length}
-use Rattle·records.specs.declared.Answer.{Answer}
-use Rattle·records.specs.Answers.{numberOf}
-use Rattle·cells.specs.declared.Cell.{Cell}
-use Rattle·cells.specs.declared.Reader.{Reader}
-use Rattle·scans.specs.declared.Found.{Found}
-use Rattle·cells.specs.Cells.{noCell}
-use Rattle·scans.specs.Rules.{newest, ownAt, newestSeen, conflict}
-use Rattle·cells.specs.Rules.{visible, blocks}
-use Rattle·scans.proofs.Meaning.{Newest, has-found, some-has, seen-means}
-use Rattle·places.specs.declared.State.{State}
-use Rattle·steps.specs.declared.Board.{Board}
-use Rattle·places.specs.Places.{allPlaces}
-use Rattle·steps.specs.Record.{placeAt}
-use Rattle·steps.specs.Store.{Store, Outcome, cellsIn}
-use Rattle·steps.specs.Step.{readAs, updatedAs, numberAt, viewAt, readerAt}
-use Rattle·history·specs.specs.History.{Ledger, sees, leave, Contested, versionOf}
-use Rattle·laws.proofs.Tests.{two, clash}
-use Rattle·steps.proofs.Cases.{on-read, on-update}
-use Rattle·history·proofs.proofs.Basics.{cases, none?, none-some, pos}
-use Rattle·history·proofs.proofs.Facts.{cellAt, in-cells, own-draft, no-draft, version-facts, visible-facts, visible-of, not-visible, blocks-facts}
-use Rattle·history·proofs.proofs.Facts.{foreign-blocks, later-blocks}
-use Rattle·history·proofs.proofs.Leave.{wroteAt, leave-none, leave-last}
-use Rattle·history·proofs.proofs.Link.{busy, wrote, Live, Linked, writer-busy, same-place, own-cell}
+use Rattle.records.specs.declared.Answer.{Answer}
+use Rattle.records.specs.Answers.{number_of}
+use Rattle.cells.specs.declared.Cell.{Cell}
+use Rattle.cells.specs.declared.Reader.{Reader}
+use Rattle.scans.specs.declared.Found.{Found}
+use Rattle.cells.specs.Cells.{no_cell}
+use Rattle.scans.specs.Rules.{newest, own_at, newest_seen, conflict}
+use Rattle.cells.specs.Rules.{visible, blocks}
+use Rattle.scans.proofs.Meaning.{Newest, has_found, some_has, seen_means}
+use Rattle.places.specs.declared.State.{State}
+use Rattle.steps.specs.declared.Board.{Board}
+use Rattle.places.specs.Places.{all_places}
+use Rattle.steps.specs.Record.{place_at}
+use Rattle.steps.specs.Store.{Store, Outcome, cells_in}
+use Rattle.steps.specs.Step.{read_as, updated_as, number_at, view_at, reader_at}
+use Rattle.history.specs.History.{Ledger, sees, leave, Contested, version_of}
+use Rattle.laws.proofs.Tests.{two, clash}
+use Rattle.steps.proofs.Cases.{on_read, on_update}
+use Rattle.history.proofs.Basics.{cases, none?, none_some, pos}
+use Rattle.history.proofs.Facts.{cell_at, in_cells, own_draft, no_draft, version_facts, visible_facts, visible_of, not_visible, blocks_facts}
+use Rattle.history.proofs.Facts.{foreign_blocks, later_blocks}
+use Rattle.history.proofs.Leave.{wrote_at, leave_none, leave_last}
+use Rattle.history.proofs.Link.{busy, wrote, Live, Linked, writer_busy, same_place, own_cell}
 
 -- two tests that say the same of every cell find the same
-same-newest : (p q : Cell → Bool) (best : Cell) (cs : List Cell) → ((i : ℕ) → p (cellAt cs i) ≡ q (cellAt cs i)) → newest p best cs ≡ newest q best cs
+same_newest : (p q : Cell → Bool) (best : Cell) (cs : List Cell) → ((i : ℕ) → p (cell_at cs i) ≡ q (cell_at cs i)) → newest p best cs ≡ newest q best cs
 unfolding newest
-same-newest p q best [] e = refl
-same-newest p q best (c ∷ cs) e = rw (e 0) (same-newest p q _ cs (λ i. e (suc i)))
+same_newest p q best [] e = refl
+same_newest p q best (c ∷ cs) e = rw (e 0) (same_newest p q _ cs (λ i. e (suc i)))
 
 module _ {b : Board} {cs : List Cell} {L : Ledger} (𝓛 : Linked b cs L) where
   -- WHAT A LIVE VIEW READS IS WHAT THE FIRST w COMMITTED LEAVE
 
   -- no cell that the reader is shown is above m: none of the transactions from m to below its view wrote the key
-  no-later : (r : Reader) → Live b (r .view) → (k m : ℕ)
-      → ((i : ℕ) → i < length cs → visible k r (cellAt cs i) ≡ true → cellAt cs i .commit ≤ m)
-      → m < r .view → wroteAt (L .past) m k ≡ none
-  no-later r live k m top l = cases (none? (wroteAt (L .past) m k)) (λ e. e)
+  no_later : (r : Reader) → Live b r.view → (k m : ℕ)
+      → ((i : ℕ) → i < length cs → visible k r (cell_at cs i) ≡ true → (cell_at cs i).commit ≤ m)
+      → m < r.view → wrote_at L.past m k ≡ none
+  no_later r live k m top l = cases (none? (wrote_at L.past m k)) (λ e. e)
       (λ s. absurd
-      (let x = 𝓛 .cells .kept (r .view) live m k (s .0) l (s .1) in
-      let v = visible-of (cellAt cs (x .cell)) k r (x .word) (omega (arith, x .above)) (x .within) in
-      omega (arith, x .above, top (x .cell) (in-cells cs (x .cell) k (x .word)) v)))
+      (let x = 𝓛.cells.kept r.view live m k s.0 l s.1 in
+      let v = visible_of (cell_at cs x.cell) k r x.word (omega (arith, x.above)) x.within in
+      omega (arith, x.above, top x.cell (in_cells cs x.cell k x.word) v)))
 
-  newest-read : (r : Reader) → Live b (r .view) → (k : ℕ) (c : Cell) → Newest (visible k r) cs c
-      → c .value ≡ leave (take (r .view) (L .past)) k
-  newest-read r live k c s =
-      let f = visible-facts c k r (s .passes) in
-      let g = pos (c .commit) (f .1) in
-      let t = s .this in
-      let word : cellAt cs (s .at) .word ≡ k + 1 = sym (ap (λ (c : Cell). c .word) t) ∙ f .0 in
-      let commit : cellAt cs (s .at) .commit ≡ g .0 + 1 = sym (ap (λ (c : Cell). c .commit) t) ∙ g .1 in
-      let u = 𝓛 .cells .pasts (s .at) (g .0) k (record { word = word; commit = commit }) in
-      ap (λ (c : Cell). c .value) t
-      ∙ sym (leave-last (r .view) (L .past) k (g .0) (cellAt cs (s .at) .value) (omega (arith, f .2, g .1)) (u .1)
-      (λ m l₁ l₂. no-later r live k m (λ i h e. omega (arith, s .most i h e, g .1)) l₂))
+  newest_read : (r : Reader) → Live b r.view → (k : ℕ) (c : Cell) → Newest (visible k r) cs c
+      → c.value ≡ leave (take r.view L.past) k
+  newest_read r live k c s =
+      let f = visible_facts c k r s.passes in
+      let g = pos c.commit f.1 in
+      let t = s.this in
+      let word : (cell_at cs s.at).word ≡ k + 1 = sym (ap (λ (c : Cell). c.word) t) ∙ f.0 in
+      let commit : (cell_at cs s.at).commit ≡ g.0 + 1 = sym (ap (λ (c : Cell). c.commit) t) ∙ g.1 in
+      let u = 𝓛.cells.pasts s.at g.0 k (record { word = word; commit = commit }) in
+      ap (λ (c : Cell). c.value) t
+      ∙ sym (leave_last r.view L.past k g.0 (cell_at cs s.at).value (omega (arith, f.2, g.1)) u.1
+      (λ m l₁ l₂. no_later r live k m (λ i h e. omega (arith, s.most i h e, g.1)) l₂))
 
-  pub live-read : (r : Reader) → Live b (r .view) → (k : ℕ) → newestSeen k r cs .value ≡ leave (take (r .view) (L .past)) k
-  live-read r live k = cases (seen-means k r cs)
-      (λ e. ap (λ (c : Cell). c .value) (e .0)
-      ∙ sym (leave-none (r .view) (L .past) k (λ m l. no-later r live k m (λ i h t. clash t (e .1 i h)) l)))
-      (λ s. newest-read r live k (newestSeen k r cs) s)
+  pub live_read : (r : Reader) → Live b r.view → (k : ℕ) → (newest_seen k r cs).value ≡ leave (take r.view L.past) k
+  live_read r live k = cases (seen_means k r cs)
+      (λ e. ap (λ (c : Cell). c.value) e.0
+      ∙ sym (leave_none r.view L.past k (λ m l. no_later r live k m (λ i h t. clash t (e.1 i h)) l)))
+      (λ s. newest_read r live k (newest_seen k r cs) s)
 
   -- no cell is numbered above the commit count: from there on a view sees all that is committed
-  all-seen : (r : Reader) → b .commits ≤ r .view → (k i : ℕ) → visible k r (cellAt cs i) ≡ versionOf k (cellAt cs i)
-  all-seen r l k i = cases (two (versionOf k (cellAt cs i)))
+  all_seen : (r : Reader) → b.commits ≤ r.view → (k i : ℕ) → visible k r (cell_at cs i) ≡ version_of k (cell_at cs i)
+  all_seen r l k i = cases (two (version_of k (cell_at cs i)))
       (λ e.
-      let f = version-facts (cellAt cs i) k e in
-      let g = pos (cellAt cs i .commit) (f .1) in
-      let u = 𝓛 .cells .pasts i (g .0) k (record { word = f .0; commit = g .1 }) in
-      visible-of (cellAt cs i) k r (f .0) (f .1) (omega (arith, u .0, g .1, 𝓛 .counts .counted)) ∙ sym e)
-      (λ e. not-visible (cellAt cs i) k r e ∙ sym e)
+      let f = version_facts (cell_at cs i) k e in
+      let g = pos (cell_at cs i).commit f.1 in
+      let u = 𝓛.cells.pasts i g.0 k (record { word = f.0; commit = g.1 }) in
+      visible_of (cell_at cs i) k r f.0 f.1 (omega (arith, u.0, g.1, 𝓛.counts.counted)) ∙ sym e)
+      (λ e. not_visible (cell_at cs i) k r e ∙ sym e)
 
-  pub newest-seen : (r : Reader) → b .commits ≤ r .view → (k : ℕ) → newest (versionOf k) noCell cs ≡ newestSeen k r cs
-  unfolding newestSeen
-  newest-seen r l k = sym (same-newest (visible k r) (versionOf k) noCell cs (all-seen r l k))
+  pub newest_seen_lem : (r : Reader) → b.commits ≤ r.view → (k : ℕ) → newest (version_of k) no_cell cs ≡ newest_seen k r cs
+  unfolding newest_seen
+  newest_seen_lem r l k = sym (same_newest (visible k r) (version_of k) no_cell cs (all_seen r l k))
 
   -- whoever starts next
-  abbrev nextReader : Reader
-  nextReader = record { number = b .starts + 1; view = b .commits }
+  abbrev next_reader : Reader
+  next_reader = record { number = b.starts + 1; view = b.commits }
 
-  pub board-holds : (k : ℕ) → newest (versionOf k) noCell cs .value ≡ leave (L .past) k
-  board-holds k =
-      ap (λ (c : Cell). c .value) (newest-seen nextReader (omega arith) k) ∙ live-read nextReader (inl refl) k ∙ rw (𝓛 .counts .counted, take-length)
+  pub board_holds : (k : ℕ) → (newest (version_of k) no_cell cs).value ≡ leave L.past k
+  board_holds k =
+      ap (λ (c : Cell). c.value) (newest_seen_lem next_reader (omega arith) k) ∙ live_read next_reader (inl refl) k ∙ rw (𝓛.counts.counted, take-length)
 
-  pub not-written : (p k : ℕ) → p < allPlaces → ownAt k (numberAt b p) cs ≡ Found.Nothing → wrote L p k ≡ none
-  not-written p k l n = cases (none? (wrote L p k)) (λ e. e)
-      (λ s. let r = 𝓛 .cells .drafted p k (s .0) l (s .1) in absurd (no-draft (numberAt b p) k cs (r .0) n (r .1)))
+  pub not_written : (p k : ℕ) → p < all_places → own_at k (number_at b p) cs ≡ Found.Nothing → wrote L p k ≡ none
+  not_written p k l n = cases (none? (wrote L p k)) (λ e. e)
+      (λ s. let r = 𝓛.cells.drafted p k s.0 l s.1 in absurd (no_draft (number_at b p) k cs r.0 n r.1))
 
-  pub open-busy : (p : ℕ) → placeAt b p .state ≡ State.Open → busy (placeAt b p) ≡ true
-  open-busy p o = rw o
+  pub open_busy : (p : ℕ) → (place_at b p).state ≡ State.Open → busy (place_at b p) ≡ true
+  open_busy p o = rw o
 
   -- THE CONFLICT TEST
-  blocks-contests : (p k i : ℕ) → p < allPlaces → blocks k (readerAt b p) (cellAt cs i) ≡ true → Contested L p k
-  blocks-contests p k i l e =
-      let c = cellAt cs i in
-      let f = blocks-facts c k (readerAt b p) e in
-      cases (f .1)
+  blocks_contests : (p k i : ℕ) → p < all_places → blocks k (reader_at b p) (cell_at cs i) ≡ true → Contested L p k
+  blocks_contests p k i l e =
+      let c = cell_at cs i in
+      let f = blocks_facts c k (reader_at b p) e in
+      cases f.1
       (λ g.
-      let r = 𝓛 .cells .drafts i _ k (record { word = f .0; commit = g .0; number = refl }) in
-      inl (r .0, r .1, (λ q. g .1 (sym (r .2) ∙ ap (λ (j : ℕ). placeAt b j .number) q)), (c .value, r .3)))
+      let r = 𝓛.cells.drafts i _ k (record { word = f.0; commit = g.0; number = refl }) in
+      inl (r.0, r.1, (λ q. g.1 (sym r.2 ∙ ap (λ (j : ℕ). (place_at b j).number) q)), (c.value, r.3)))
       (λ g.
-      let u = pos (c .commit) (omega arith) in
-      let r = 𝓛 .cells .pasts i (u .0) k (record { word = f .0; commit = u .1 }) in
-      inr (u .0, omega (arith, 𝓛 .places .placed p l .view, g, u .1), r .0, (c .value, r .1)))
+      let u = pos c.commit (omega arith) in
+      let r = 𝓛.cells.pasts i u.0 k (record { word = f.0; commit = u.1 }) in
+      inr (u.0, omega (arith, (𝓛.places.placed p l).view, g, u.1), r.0, (c.value, r.1)))
 
-  pub conflict-contested : (p k : ℕ) → p < allPlaces → conflict k (readerAt b p) cs ≡ true → Contested L p k
+  pub conflict_contested : (p k : ℕ) → p < all_places → conflict k (reader_at b p) cs ≡ true → Contested L p k
   unfolding conflict
-  conflict-contested p k l e =
-      let r = has-found (blocks k (readerAt b p)) cs e in
-      blocks-contests p k (r .at) l (r .passes)
+  conflict_contested p k l e =
+      let r = has_found (blocks k (reader_at b p)) cs e in
+      blocks_contests p k r.at l r.passes
 
-  blocked : (p k i : ℕ) → cellAt cs i .word ≡ k + 1 → blocks k (readerAt b p) (cellAt cs i) ≡ true
-      → conflict k (readerAt b p) cs ≡ true
+  blocked : (p k i : ℕ) → (cell_at cs i).word ≡ k + 1 → blocks k (reader_at b p) (cell_at cs i) ≡ true
+      → conflict k (reader_at b p) cs ≡ true
   unfolding conflict
-  blocked p k i w e = some-has (blocks k (readerAt b p)) cs i (in-cells cs i k w) e
+  blocked p k i w e = some_has (blocks k (reader_at b p)) cs i (in_cells cs i k w) e
 
-  pub contested-conflict : (p k : ℕ) → p < allPlaces → busy (placeAt b p) ≡ true → Contested L p k
-      → conflict k (readerAt b p) cs ≡ true
-  contested-conflict p k l h c = cases c
+  pub contested_conflict : (p k : ℕ) → p < all_places → busy (place_at b p) ≡ true → Contested L p k
+      → conflict k (reader_at b p) cs ≡ true
+  contested_conflict p k l h c = cases c
       (λ u.
-      let r = 𝓛 .cells .drafted (u .0) k (u .3 .0) (u .1) (u .3 .1) in
-      let n : placeAt b (u .0) .number ≡ placeAt b p .number → ⊥ =
-      λ e. u .2 (same-place 𝓛 (u .0) p (u .1) l (writer-busy 𝓛 (u .0) k (u .3 .0) (u .1) (u .3 .1)) h e) in
-      blocked p k (r .0) (r .1 .word) (foreign-blocks (cellAt cs (r .0)) k (readerAt b p) (numberAt b (u .0)) (r .1) n))
+      let r = 𝓛.cells.drafted u.0 k u.3.0 u.1 u.3.1 in
+      let n : (place_at b u.0).number ≡ (place_at b p).number → ⊥ =
+      λ e. u.2 (same_place 𝓛 u.0 p u.1 l (writer_busy 𝓛 u.0 k u.3.0 u.1 u.3.1) h e) in
+      blocked p k r.0 r.1.word (foreign_blocks (cell_at cs r.0) k (reader_at b p) (number_at b u.0) r.1 n))
       (λ u.
-      let r = 𝓛 .cells .kept (b .commits) (inl refl) (u .0) k (u .3 .0) (omega (arith, 𝓛 .counts .counted, u .2)) (u .3 .1) in
-      let n : viewAt b p < cellAt cs (r .cell) .commit = omega (arith, r .above, 𝓛 .places .placed p l .view, u .1) in
-      blocked p k (r .cell) (r .word) (later-blocks (cellAt cs (r .cell)) k (readerAt b p) (r .word) n))
+      let r = 𝓛.cells.kept b.commits (inl refl) u.0 k u.3.0 (omega (arith, 𝓛.counts.counted, u.2)) u.3.1 in
+      let n : view_at b p < (cell_at cs r.cell).commit = omega (arith, r.above, (𝓛.places.placed p l).view, u.1) in
+      blocked p k r.cell r.word (later_blocks (cell_at cs r.cell) k (reader_at b p) r.word n))
 
 -- AT ONE STEP
-module _ (st : Store) (L : Ledger) (𝓛 : Linked (st .board) (cellsIn st) L) where
+module _ (st : Store) (L : Ledger) (𝓛 : Linked st.board (cells_in st) L) where
   abbrev b : Board
-  b = st .board
+  b = st.board
 
   abbrev cs : List Cell
-  cs = cellsIn st
+  cs = cells_in st
 
   abbrev Shown : ℕ → ℕ → Outcome → Type 0
-  Shown p k o = o .said .number ≡ 0 → o .said .value ≡ sees L p k
+  Shown p k o = o.said.number ≡ 0 → o.said.value ≡ sees L p k
 
   -- a read that is answered
-  pub read-right : (p k : ℕ) → p < allPlaces → placeAt b p .state ≡ State.Open → Shown p k (readAs st p k)
-  read-right p k l o =
-      on-read (Shown p k) st p k
-      (λ i f _. let y = own-cell 𝓛 p i k l (open-busy 𝓛 p o) (own-draft (numberAt b p) k cs i f) in rw y)
+  pub read_right : (p k : ℕ) → p < all_places → (place_at b p).state ≡ State.Open → Shown p k (read_as st p k)
+  read_right p k l o =
+      on_read (Shown p k) st p k
+      (λ i f _. let y = own_cell 𝓛 p i k l (open_busy 𝓛 p o) (own_draft (number_at b p) k cs i f) in rw y)
       (λ _ _ z. absurd (omega arith))
-      (λ n _ _. live-read 𝓛 (readerAt b p) (inr (p, l, o, refl)) k ∙ rw (not-written 𝓛 p k l n, 𝓛 .places .placed p l .view))
+      (λ n _ _. live_read 𝓛 (reader_at b p) (inr (p, l, o, refl)) k ∙ rw (not_written 𝓛 p k l n, (𝓛.places.placed p l).view))
 
   abbrev Exact : ℕ → ℕ → Outcome → Type 0
-  Exact p k o = (o .said .number ≡ numberOf Answer.Conflict) ↔ Contested L p k
+  Exact p k o = (o.said.number ≡ number_of Answer.Conflict) ↔ Contested L p k
 
-  pub conflict-exact : (p k new : ℕ) → p < allPlaces → placeAt b p .state ≡ State.Open → wrote L p k ≡ none
-      → Exact p k (updatedAs st p k new)
-  conflict-exact p k new l o w =
-      let h = open-busy 𝓛 p o in
-      let calm : conflict k (readerAt b p) cs ≡ false → Contested L p k → ⊥ =
-      λ t c. clash (contested-conflict 𝓛 p k l h c) t in
-      on-update (Exact p k) st p k new
-      (λ i f. none-some (wrote L p k) (cellAt cs i .value) w (own-cell 𝓛 p i k l h (own-draft (numberAt b p) k cs i f)))
-      (λ n t. (λ _. conflict-contested 𝓛 p k l t, λ _. refl))
+  pub conflict_exact : (p k new : ℕ) → p < all_places → (place_at b p).state ≡ State.Open → wrote L p k ≡ none
+      → Exact p k (updated_as st p k new)
+  conflict_exact p k new l o w =
+      let h = open_busy 𝓛 p o in
+      let calm : conflict k (reader_at b p) cs ≡ false → Contested L p k → ⊥ =
+      λ t c. clash (contested_conflict 𝓛 p k l h c) t in
+      on_update (Exact p k) st p k new
+      (λ i f. none_some (wrote L p k) (cell_at cs i).value w (own_cell 𝓛 p i k l h (own_draft (number_at b p) k cs i f)))
+      (λ n t. (λ _. conflict_contested 𝓛 p k l t, λ _. refl))
       (λ n t i _. (λ e. absurd (omega arith), λ c. absurd (calm t c)))
       (λ n t _. (λ e. absurd (omega arith), λ c. absurd (calm t c)))

@@ -1,17 +1,11 @@
 -- The axioms of document 001's Table 1 over the same ledger: snapshot isolation, in real time.
 -- Assumes nothing.
-use mathlib.Core.Path.{_≡_}
-use mathlib.Core.Logic.{_↔_, _⊎_}
-use mathlib.Core.Bool.{cond}
-use mathlib.Core.List.{List, [], _∷_, _++_}
-use mathlib.Core.Option.{Option, none, some}
-use Prim.Native.Nat.{ℕ, _≤_, _<_}
-use lib.Dec.{eqb}
-use lib.ListN.{length}
-use Rattle·records.specs.declared.Call.{Call}
-use Rattle·steps.specs.Record.{mostCells}
-use Rattle·steps.specs.Run.{Pair}
-use Rattle·history·specs.specs.History.{Event, read, write, lastWrite, Ledger, doneAt, ledger, fromFresh}
+use Rattle.std.specs.Prelude.{◌≡◌, ◌↔◌, ◌⊎◌, cond, List, [], ◌∷◌, ◌++◌, ℕ, ◌≤◌, ◌<◌, eqb, length}
+use Rattle.std.proofs.Math.Option.{Option, none, some}
+use Rattle.records.specs.declared.Call.{Call}
+use Rattle.steps.specs.Record.{most_cells}
+use Rattle.steps.specs.Run.{Pair}
+use Rattle.history.specs.History.{Event, read, write, last_write, Ledger, done_at, ledger, from_fresh}
 
 -- TRANSACTIONS
 
@@ -23,34 +17,34 @@ pub data Tx : Type 0 where
 -- the transaction is one of the history
 abbrev pub In : Ledger → Tx → Type 0
 In L initial = Unit {0}
-In L (nth j) = j < length (L .past)
+In L (nth j) = j < length L.past
 
 -- its events in program order, the last first; a read is there only if it was answered
-abbrev pub eventsOf : Ledger → Tx → List Event
-eventsOf L initial = []
-eventsOf L (nth j) = doneAt L j .did
+abbrev pub events_of : Ledger → Tx → List Event
+events_of L initial = []
+events_of L (nth j) = (done_at L j).did
 
 -- T writes to the key, and the last value written is v
 abbrev pub Writes : Ledger → Tx → ℕ → ℕ → Type 0
 Writes L initial k v = v ≡ 0
-Writes L (nth j) k v = lastWrite (doneAt L j .did) k ≡ some v
+Writes L (nth j) k v = last_write (done_at L j).did k ≡ some v
 
 -- T is one that writes to the key
 abbrev pub WritesTo : Ledger → Tx → ℕ → Type 0
 WritesTo L T k = (v : ℕ) × Writes L T k v
 
 -- the value of the last event on a key, whether it wrote or read
-abbrev pub lastOn : List Event → ℕ → Option ℕ
-lastOn [] k = none
-lastOn (read j v ∷ es) k = cond (eqb k j) (some v) (lastOn es k)
-lastOn (write j v ∷ es) k = cond (eqb k j) (some v) (lastOn es k)
+abbrev pub last_on : List Event → ℕ → Option ℕ
+last_on [] k = none
+last_on (read j v ∷ es) k = cond (eqb k j) (some v) (last_on es k)
+last_on (write j v ∷ es) k = cond (eqb k j) (some v) (last_on es k)
 
 -- T reads from the key before writing to it, and v is the value returned by the first such read
 pub record ReadsFirst (L : Ledger) (T : Tx) (k v : ℕ) : Type 0 where
   pub later : List Event
   pub earlier : List Event
-  pub event : eventsOf L T ≡ later ++ (read k v ∷ earlier)
-  pub first : lastOn earlier k ≡ none
+  pub event : events_of L T ≡ later ++ (read k v ∷ earlier)
+  pub first : last_on earlier k ≡ none
 
 -- RELATIONS
 
@@ -58,7 +52,7 @@ pub record ReadsFirst (L : Ledger) (T : Tx) (k v : ℕ) : Type 0 where
 abbrev pub VIS : Ledger → Tx → Tx → Type 0
 VIS L S initial = ⊥
 VIS L initial (nth j) = Unit {0}
-VIS L (nth i) (nth j) = i < doneAt L j .seen
+VIS L (nth i) (nth j) = i < (done_at L j).seen
 
 -- arbitration: commit order
 abbrev pub AR : Ledger → Tx → Tx → Type 0
@@ -70,13 +64,13 @@ AR L (nth i) (nth j) = i < j
 abbrev pub RB : Ledger → Tx → Tx → Type 0
 RB L S initial = ⊥
 RB L initial (nth j) = Unit {0}
-RB L (nth i) (nth j) = doneAt L i .ended < doneAt L j .began
+RB L (nth i) (nth j) = (done_at L i).ended < (done_at L j).began
 
 -- commits before: S committed before T did, by positions in the history
 abbrev pub CB : Ledger → Tx → Tx → Type 0
 CB L S initial = ⊥
 CB L initial (nth j) = Unit {0}
-CB L (nth i) (nth j) = doneAt L i .ended < doneAt L j .ended
+CB L (nth i) (nth j) = (done_at L i).ended < (done_at L j).ended
 
 -- a strict partial order is an irreflexive and transitive relation
 pub record StrictPartial (L : Ledger) (R : Ledger → Tx → Tx → Type 0) : Type 0 where
@@ -94,8 +88,8 @@ pub record Execution (L : Ledger) : Type 0 where
 
 -- within a transaction, a read from a key returns the same value as the last write to or read from this key in the transaction
 abbrev pub Int : Ledger → Type 0
-Int L = (T : Tx) → In L T → (later earlier : List Event) (k v u : ℕ) → eventsOf L T ≡ later ++ (read k v ∷ earlier)
-    → lastOn earlier k ≡ some u → v ≡ u
+Int L = (T : Tx) → In L T → (later earlier : List Event) (k v u : ℕ) → events_of L T ≡ later ++ (read k v ∷ earlier)
+    → last_on earlier k ≡ some u → v ≡ u
 
 -- S is the last in AR among the transactions that precede T in terms of VIS and write this key
 pub record Latest (L : Ledger) (T : Tx) (k : ℕ) (S : Tx) : Type 0 where
@@ -129,16 +123,16 @@ pub record SnapshotIsolation (L : Ledger) : Type 0 where
   pub int : Int L
   pub ext : Ext L
   pub prefix : Prefix L
-  pub noConflict : NoConflict L
+  pub no_conflict : NoConflict L
   pub realtime : RealtimeSnapshot L
-  pub commitBefore : CommitBefore L
+  pub commit_before : CommitBefore L
 
 -- those that any pairs meet, whatever answered them: they say how a ledger is made. The others, Int, Ext and NoConflict, bind the store
 pub record AsMade (L : Ledger) : Type 0 where
   pub execution : Execution L
   pub prefix : Prefix L
   pub realtime : RealtimeSnapshot L
-  pub commitBefore : CommitBefore L
+  pub commit_before : CommitBefore L
 
 -- of the ledger of any pairs
 abbrev pub AnyPairs : Type 0
@@ -146,4 +140,4 @@ AnyPairs = (hs : List Pair) → AsMade (ledger hs)
 
 -- for every number of cells from 1 to 1,024 and every list of calls
 abbrev pub Isolated : Type 0
-Isolated = (n : ℕ) → 0 < n → n ≤ mostCells → (calls : List Call) → SnapshotIsolation (ledger (fromFresh n calls .pairs))
+Isolated = (n : ℕ) → 0 < n → n ≤ most_cells → (calls : List Call) → SnapshotIsolation (ledger (from_fresh n calls).pairs)

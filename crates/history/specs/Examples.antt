@@ -1,26 +1,23 @@
 -- Closed histories: cases 2, 5 and 9 of document 01, two transactions that overlapped, and stores that cheat.
 -- Assumes nothing.
-use mathlib.Core.Path.{_≡_}
-use mathlib.Core.Bool.{Bool, true, not, _&&_}
-use mathlib.Core.List.{List, [], _∷_, _++_}
-use Prim.Native.Nat.{ℕ}
-use Rattle·records.specs.declared.Call.{Call}
-use Rattle·records.specs.declared.Answer.{Answer}
-use Rattle·steps.specs.Store.{saidOf}
-use Rattle·steps.specs.Run.{Pair, callsOf}
-use Rattle·promises.specs.Situations.{_gives_, sameSaid, Situation, firstCommit}
-use Rattle·history·specs.specs.History.{Ledger, newLedger, note, ledger, fromFresh, OverlappedApart}
-use Rattle·history·specs.specs.Verdict.{verdict}
+use Rattle.std.specs.Prelude.{◌≡◌, Bool, true, not, ◌&&◌, List, [], ◌∷◌, ◌++◌, ℕ}
+use Rattle.records.specs.declared.Call.{Call}
+use Rattle.records.specs.declared.Answer.{Answer}
+use Rattle.steps.specs.Store.{said_of}
+use Rattle.steps.specs.Run.{Pair, calls_of}
+use Rattle.promises.specs.Situations.{◌gives◌, same_said, Situation, first_commit}
+use Rattle.history.specs.History.{Ledger, new_ledger, note, ledger, from_fresh, OverlappedApart}
+use Rattle.history.specs.Verdict.{verdict}
 
 -- the situation's history is the one that document 01 tells
 abbrev pub AsTold : Situation → Type 0
-AsTold s = fromFresh (s .cells) (callsOf (s .pairs)) .pairs ≡ s .pairs
+AsTold s = (from_fresh s.cells (calls_of s.pairs)).pairs ≡ s.pairs
 
 -- TWO THAT OVERLAPPED
 
 -- places 0 and 1 open before either commits. Place 0 writes key 1 and commits, then place 1 writes a key and commits
-abbrev pub writeInTurn : ℕ → List Pair
-writeInTurn key =
+abbrev pub write_in_turn : ℕ → List Pair
+write_in_turn key =
     Call.Update 0 1 3 gives Answer.Ok 0
     ∷ Call.Commit 0 gives Answer.Ok 1
     ∷ Call.Update 1 key 4 gives Answer.Ok 0
@@ -28,12 +25,12 @@ writeInTurn key =
     ∷ []
 
 -- the first to commit began first
-abbrev pub firstBeganFirst : ℕ → List Pair
-firstBeganFirst key = Call.Start 0 gives Answer.Ok 1 ∷ Call.Start 1 gives Answer.Ok 2 ∷ writeInTurn key
+abbrev pub first_began_first : ℕ → List Pair
+first_began_first key = Call.Start 0 gives Answer.Ok 1 ∷ Call.Start 1 gives Answer.Ok 2 ∷ write_in_turn key
 
 -- the last to commit began first
-abbrev pub lastBeganFirst : ℕ → List Pair
-lastBeganFirst key = Call.Start 1 gives Answer.Ok 1 ∷ Call.Start 0 gives Answer.Ok 2 ∷ writeInTurn key
+abbrev pub last_began_first : ℕ → List Pair
+last_began_first key = Call.Start 1 gives Answer.Ok 1 ∷ Call.Start 0 gives Answer.Ok 2 ∷ write_in_turn key
 
 -- demand 3 does not allow these answers
 abbrev pub SharedKey : List Pair → Type 0
@@ -44,7 +41,7 @@ SharedKey hs = OverlappedApart hs → ⊥
 -- every answer is the verdict of the pairs before it
 abbrev pub judged : Ledger → List Pair → Bool
 judged L [] = true
-judged L (h ∷ hs) = sameSaid (saidOf (verdict L (h .call))) (h .said) && judged (note L h) hs
+judged L (h ∷ hs) = same_said (said_of (verdict L h.call)) h.said && judged (note L h) hs
 
 -- a history, the next call, what the cheating store answers, and what is due
 pub record Cheat : Type 0 where
@@ -55,23 +52,23 @@ pub record Cheat : Type 0 where
 
 -- the history with the cheating answer
 abbrev pub cheated : Cheat → List Pair
-cheated c = c .before ++ (c .call gives c .cheating ∷ [])
+cheated c = c.before ++ (c.call gives c.cheating ∷ [])
 
 -- nothing was wrong before; the verdict is the right answer, and the cheating one is not
 abbrev pub caught : Cheat → Bool
 caught c =
-    judged newLedger (c .before)
-    && sameSaid (saidOf (verdict (ledger (c .before)) (c .call))) (saidOf (c .right))
-    && not (sameSaid (saidOf (c .cheating)) (saidOf (c .right)))
+    judged new_ledger c.before
+    && same_said (said_of (verdict (ledger c.before) c.call)) (said_of c.right)
+    && not (same_said (said_of c.cheating) (said_of c.right))
 
 -- all of them
-abbrev pub allCaught : List Cheat → Bool
-allCaught [] = true
-allCaught (c ∷ cs) = caught c && allCaught cs
+abbrev pub all_caught : List Cheat → Bool
+all_caught [] = true
+all_caught (c ∷ cs) = caught c && all_caught cs
 
 -- testing for conflict at commit against views alone: two unfinished writers then share a key
-abbrev pub viewsAlone : Cheat
-viewsAlone =
+abbrev pub views_alone : Cheat
+views_alone =
     record {
       before = Call.Start 0 gives Answer.Ok 1 ∷ Call.Start 1 gives Answer.Ok 2 ∷ Call.Update 0 5 1 gives Answer.Ok 0 ∷ [];
       call = Call.Update 1 5 2;
@@ -80,8 +77,8 @@ viewsAlone =
     }
 
 -- taking the newest committed value at each read, which makes case 2 show 12
-abbrev pub newestAtEachRead : Cheat
-newestAtEachRead =
+abbrev pub newest_at_each_read : Cheat
+newest_at_each_read =
     record {
       before =
           Call.Start 0 gives Answer.Ok 1
@@ -96,11 +93,11 @@ newestAtEachRead =
     }
 
 -- reusing any version that isn't the newest: case 9 then reads 0 at place 5
-abbrev pub anyOldVersion : Cheat
-anyOldVersion =
+abbrev pub any_old_version : Cheat
+any_old_version =
     record {
       before =
-          firstCommit
+          first_commit
           ++ Call.Start 5 gives Answer.Ok 2
           ∷ Call.Start 0 gives Answer.Ok 3
           ∷ Call.Update 0 0 2 gives Answer.Ok 0
@@ -113,9 +110,9 @@ anyOldVersion =
       right = Answer.Ok 1;
     }
 
--- dropping a rolled-back writer's words only in its first cell, so a second key stays blocked
-abbrev pub firstCellOnly : Cheat
-firstCellOnly =
+-- dropping a rolled_back writer's words only in its first cell, so a second key stays blocked
+abbrev pub first_cell_only : Cheat
+first_cell_only =
     record {
       before =
           Call.Start 0 gives Answer.Ok 1
@@ -135,7 +132,7 @@ abbrev pub feigning : Cheat
 feigning =
     record {
       before =
-          firstCommit
+          first_commit
           ++ Call.Start 0 gives Answer.Ok 2
           ∷ Call.Update 0 0 2 gives Answer.Ok 0
           ∷ Call.Commit 0 gives Answer.Ok 2
@@ -148,18 +145,18 @@ feigning =
 
 -- the list
 abbrev pub cheats : List Cheat
-cheats = viewsAlone ∷ newestAtEachRead ∷ anyOldVersion ∷ firstCellOnly ∷ feigning ∷ []
+cheats = views_alone ∷ newest_at_each_read ∷ any_old_version ∷ first_cell_only ∷ feigning ∷ []
 
 -- AXIOMS THAT BIND THE STORE
 
 -- a transaction that reads one key twice and is shown two values breaks Int
-abbrev pub twoValues : List Pair
-twoValues = newestAtEachRead .before ++ Call.Read 1 7 gives Answer.Ok 12 ∷ Call.Commit 1 gives Answer.Ok 2 ∷ []
+abbrev pub two_values : List Pair
+two_values = newest_at_each_read.before ++ Call.Read 1 7 gives Answer.Ok 12 ∷ Call.Commit 1 gives Answer.Ok 2 ∷ []
 
 -- one that is shown what nobody wrote breaks Ext
-abbrev pub neverWritten : List Pair
-neverWritten = Call.Start 0 gives Answer.Ok 1 ∷ Call.Read 0 7 gives Answer.Ok 5 ∷ Call.Commit 0 gives Answer.Ok 1 ∷ []
+abbrev pub never_written : List Pair
+never_written = Call.Start 0 gives Answer.Ok 1 ∷ Call.Read 0 7 gives Answer.Ok 5 ∷ Call.Commit 0 gives Answer.Ok 1 ∷ []
 
 -- and two that overlapped and wrote one key break NoConflict
-abbrev pub oneKey : List Pair
-oneKey = lastBeganFirst 1
+abbrev pub one_key : List Pair
+one_key = last_began_first 1

@@ -1,5 +1,5 @@
--- Demands 1 and 3 for what a host calls: Refusals (refusal-leaves-all, from-the-list), Calls (calls-tell, no-kind, no-kind-nothing,
--- calls-right, calls-full), Serves (serves-tell) and Mixed (serve-is-calls, mixed-is-calls).
+-- Demands 1 and 3 for what a host calls: Refusals (refusal_leaves_all, from_the_list), Calls (calls_tell, no_kind, no_kind_nothing,
+-- calls_right, calls_full), Serves (serves_tell) and Mixed (serve_is_calls, mixed_is_calls).
 pub mod Refusals
 pub mod Fresh
 pub mod Calls

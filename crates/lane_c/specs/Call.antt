@@ -1,20 +1,17 @@
 -- One call over words: what C and Rust hand in, and what comes back.
 -- Assumes nothing.
-use mathlib.Core.Bool.{cond}
-use mathlib.Core.List.{List, [], _∷_}
-use Prim.Native.Nat.{ℕ, _/_, _%_}
-use lib.ListN.{getD}
-use Rattle·records.specs.declared.Answer.{Answer}
-use Rattle·records.specs.declared.Call.{Call}
-use Rattle·records.specs.declared.CallRead.{CallRead}
-use Rattle·steps.specs.Store.{Store, Said, Outcome, lent, saidOf}
-use Rattle·steps.specs.Step.{step}
-use Rattle·words.specs.Words.{recordOf, wordsOfRecord, wellFormed}
+use Rattle.std.specs.Prelude.{cond, List, [], ◌∷◌, ℕ, ◌/◌, ◌%◌, get_or}
+use Rattle.records.specs.declared.Answer.{Answer}
+use Rattle.records.specs.declared.Call.{Call}
+use Rattle.records.specs.declared.CallRead.{CallRead}
+use Rattle.steps.specs.Store.{Store, Said, Outcome, lent, said_of}
+use Rattle.steps.specs.Step.{step}
+use Rattle.words.specs.Words.{record_of, words_of_record, well_formed}
 
 -- kind (1 start, 2 read, 3 update, 4 prepare, 5 commit, 6 rollback); key and value are ignored where the kind has none
-abbrev pub callNamed : ℕ → ℕ → ℕ → ℕ → CallRead
-callNamed kind place key value =
-    getD
+abbrev pub call_named : ℕ → ℕ → ℕ → ℕ → CallRead
+call_named kind place key value =
+    get_or
     (CallRead.Record ∷ (CallRead.Good (Call.Start place) ∷ (CallRead.Good (Call.Read place key) ∷
     (CallRead.Good (Call.Update place key value) ∷ (CallRead.Good (Call.Prepare place) ∷
     (CallRead.Good (Call.Commit place) ∷ (CallRead.Good (Call.Rollback place) ∷ [])))))))
@@ -40,26 +37,26 @@ abbrev pub crossed : ℕ → List ℕ → List ℕ → Crossed
 crossed r ws cs = record { said = record { number = upper r; value = lower r }; words = ws; cells = cs }
 
 -- a refusal that changes nothing
-abbrev pub refusedWith : Answer → List ℕ → List ℕ → Crossed
-refusedWith a ws cs = record { said = saidOf a; words = ws; cells = cs }
+abbrev pub refused_with : Answer → List ℕ → List ℕ → Crossed
+refused_with a ws cs = record { said = said_of a; words = ws; cells = cs }
 
 -- what a step came to, its record as words
-abbrev pub outcomeWords : Outcome → Crossed
-outcomeWords o = record { said = o .said; words = wordsOfRecord (o .store .board); cells = o .store .words }
+abbrev pub outcome_words : Outcome → Crossed
+outcome_words o = record { said = o.said; words = words_of_record o.store.board; cells = o.store.words }
 
 -- the store that words of a record and of cells are
-abbrev pub storeOf : List ℕ → List ℕ → Store
-storeOf ws cs = lent (recordOf ws) cs
+abbrev pub store_of : List ℕ → List ℕ → Store
+store_of ws cs = lent (record_of ws) cs
 
 -- words that are no record are 1 BOARD; otherwise the call does its step
-abbrev pub stepOnWords : List ℕ → List ℕ → Call → Crossed
-stepOnWords ws cs call = cond (wellFormed ws) (outcomeWords (step (storeOf ws cs) call)) (refusedWith Answer.Board ws cs)
+abbrev pub step_on_words : List ℕ → List ℕ → Call → Crossed
+step_on_words ws cs call = cond (well_formed ws) (outcome_words (step (store_of ws cs) call)) (refused_with Answer.Board ws cs)
 
 -- a kind other than 1 to 6 is 12 RECORD, before anything else
-abbrev pub onNamed : CallRead → List ℕ → List ℕ → Crossed
-onNamed (CallRead.Good call) ws cs = stepOnWords ws cs call
-onNamed CallRead.Record ws cs = refusedWith Answer.Record ws cs
+abbrev pub on_named : CallRead → List ℕ → List ℕ → Crossed
+on_named (CallRead.Good call) ws cs = step_on_words ws cs call
+on_named CallRead.Record ws cs = refused_with Answer.Record ws cs
 
 -- lane_call
-unfoldable pub laneCall : List ℕ → List ℕ → ℕ → ℕ → ℕ → ℕ → Crossed
-laneCall ws cs kind place key value = onNamed (callNamed kind place key value) ws cs
+unfoldable pub lane_call : List ℕ → List ℕ → ℕ → ℕ → ℕ → ℕ → Crossed
+lane_call ws cs kind place key value = on_named (call_named kind place key value) ws cs

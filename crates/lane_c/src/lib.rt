@@ -1,15 +1,15 @@
 // The lane board for C and Rust: the exported functions. A record crosses as words, which `words` reads and writes.
+ghost use Rattle.std.specs.Prelude.{◌≡◌};
+ghost use Rattle.records.specs.Answers.{number_of, value_of};
+ghost use Rattle.lane_c.specs.Call.{call_named, upper, lower, crossed, step_on_words, lane_call};
+ghost use Rattle.lane_c.specs.Serve.{why_of, handed, lane_serve};
+
 use lanes::Stop;
-use records::Answer;
-use records::Call;
-use records::CallRead;
-ghost use mathlib.Core.Path.{_≡_};
-ghost use Rattle·records.specs.Answers.{numberOf, valueOf};
-ghost use Rattle·lane_c·specs.specs.Call.{callNamed, upper, lower, crossed, stepOnWords, laneCall};
-ghost use Rattle·lane_c·specs.specs.Serve.{whyOf, handed, laneServe};
+use records::{Answer, Call, CallRead};
 
 // How far `lane_serve` got: bytes of calls taken, bytes of answers written, and why it stopped.
 #[repr(C)]
+#[derive(Drop)]
 pub struct LaneServed {
     pub taken: u64,
     pub written: u64,
@@ -20,7 +20,7 @@ pub struct LaneServed {
 const UPPER: u64 = 4_294_967_296;
 
 // One call on a record held as words: the refusal number in the upper and the value in the lower 32 bits.
-#[no_mangle]
+#[unsafe(no_mangle)]
 pub extern "C" fn lane_call(
     words: &mut [u32],
     cells: &mut [u32],
@@ -29,7 +29,7 @@ pub extern "C" fn lane_call(
     key: u32,
     value: u32,
 ) -> u64
-    ensures { λ r. ⌜ crossed r (now (words .exit)) (now (cells .exit)) ≡ laneCall (now (words .entry)) (now (cells .entry)) kind place key value ⌝ }
+    ensures { crossed result words.new cells.new ≡ lane_call words.old cells.old kind place key value }
 {
     match call_named(kind, place, key, value) {
         CallRead::Good(call) => step_on_words(words, cells, call),
@@ -38,15 +38,15 @@ pub extern "C" fn lane_call(
 }
 
 // Call records answered one after another, on a record held as words.
-#[no_mangle]
+#[unsafe(no_mangle)]
 pub extern "C" fn lane_serve(
     words: &mut [u32],
     cells: &mut [u32],
     calls: &[u8],
     answers: &mut [u8],
 ) -> LaneServed
-    ensures { λ r. ⌜ handed r (now (words .exit)) (now (cells .exit)) (now (answers .exit))
-        ≡ laneServe (now (words .entry)) (now (cells .entry)) (now (calls .entry)) (now (answers .entry)) ⌝ }
+    ensures { handed result words.new cells.new answers.new
+        ≡ lane_serve words.old cells.old calls.now answers.old }
 {
     if !words::well_formed(words) {
         return LaneServed {
@@ -69,7 +69,7 @@ pub extern "C" fn lane_serve(
 
 // A call on a record held as words: BOARD where they are none, otherwise its step.
 fn step_on_words(words: &mut [u32], cells: &mut [u32], call: Call) -> u64
-    ensures { λ r. ⌜ crossed r (now (words .exit)) (now (cells .exit)) ≡ stepOnWords (now (words .entry)) (now (cells .entry)) call ⌝ }
+    ensures { crossed result words.new cells.new ≡ step_on_words words.old cells.old call }
 {
     if !words::well_formed(words) {
         return answer_word(Answer::Board);
@@ -84,7 +84,7 @@ fn step_on_words(words: &mut [u32], cells: &mut [u32], call: Call) -> u64
 
 // The call that a kind names.
 fn call_named(kind: u32, place: u32, key: u32, value: u32) -> CallRead
-    ensures { λ r. ⌜ r ≡ callNamed kind place key value ⌝ }
+    ensures { result ≡ call_named kind place key value }
 {
     match kind {
         1 => CallRead::Good(Call::Start { place }),
@@ -99,14 +99,14 @@ fn call_named(kind: u32, place: u32, key: u32, value: u32) -> CallRead
 
 // An answer as one word: its number above its value.
 fn answer_word(a: Answer) -> u64
-    ensures { λ r. ⌜ (upper r ≡ numberOf a) × (lower r ≡ valueOf a) ⌝ }
+    ensures { (upper result ≡ number_of a) × (lower result ≡ value_of a) }
 {
     (records::number(a) as u64) * UPPER + (records::value(a) as u64)
 }
 
 // The number of a reason to stop.
 fn why_of(stop: Stop) -> u32
-    ensures { λ r. ⌜ r ≡ whyOf stop ⌝ }
+    ensures { result ≡ why_of stop }
 {
     match stop {
         Stop::End => 0,

@@ -1,74 +1,74 @@
 -- Writing the answer to a call that was read never fails: a call from bytes has a place byte, and an answer's value is a u32.
 -- Assumes nothing.
-use mathlib.Core.Path.{_≡_, refl, sym, ap, _∙_}
-use mathlib.Core.Bool.{true, _&&_}
+use mathlib.Core.Path.{◌≡◌, refl, sym, ap, ◌∙◌}
+use mathlib.Core.Bool.{true, ◌&&◌}
 use mathlib.Core.List.{List}
-use Prim.Native.Nat.{ℕ, _+_, _≤_, _<_, _^_}
+use Prim.Native.Nat.{ℕ, ◌+◌, ◌≤◌, ◌<◌, ◌^◌}
 use native.Mathlib.Omega.{arith}
 use lib.Dec.{leb, lit<}
 use lib.ListN.{length}
 use borrow.Author.Tests.{lt-ltb, le-leb}
-use Rattle·records.specs.declared.Answer.{Answer}
-use Rattle·records.specs.declared.Call.{Call}
-use Rattle·records.specs.declared.CallRead.{CallRead}
-use Rattle·records.specs.declared.Reply.{Reply}
-use Rattle·records.specs.Answers.{valueOf, placeOf}
-use Rattle·fields.specs.Bytes.{goesIn, putAt}
-use Rattle·records.specs.Format.{answerBytes, keyOf, newValueOf, callAt, answerOf, answerRecord, replyFits, Written, wrote, writtenAnswer}
-use Rattle·laws.proofs.Tests.{and-left}
-use Rattle·records.proofs.Fields.{answer-length}
-use Rattle·records.proofs.RoundTrip.{calls, answer-named}
-use Rattle·steps.specs.Store.{Store}
-use Rattle·steps.specs.declared.Answered.{Answered}
-use Rattle·steps.specs.Step.{outcome, step}
-use Rattle·steps.specs.Run.{pairOf}
-use Rattle·lanes·specs.specs.Serve.{replyTo, noCall, OneAnswered, oneAnswered, answerOne}
+use Rattle.records.specs.declared.Answer.{Answer}
+use Rattle.records.specs.declared.Call.{Call}
+use Rattle.records.specs.declared.CallRead.{CallRead}
+use Rattle.records.specs.declared.Reply.{Reply}
+use Rattle.records.specs.Answers.{value_of, place_of}
+use Rattle.fields.specs.Bytes.{goes_in, put_at}
+use Rattle.records.specs.Format.{answer_bytes, key_of, new_value_of, call_at, answer_of, answer_record, reply_fits, Written, wrote, written_answer}
+use Rattle.laws.proofs.Tests.{and_left}
+use Rattle.records.proofs.Fields.{answer_length}
+use Rattle.records.proofs.RoundTrip.{calls, answer_named}
+use Rattle.steps.specs.Store.{Store}
+use Rattle.steps.specs.declared.Answered.{Answered}
+use Rattle.steps.specs.Step.{outcome, step}
+use Rattle.steps.specs.Run.{pair_of}
+use Rattle.lanes.specs.Serve.{reply_to, no_call, OneAnswered, one_answered, answer_one}
 
 -- READING
 
 -- a call that was read has a place byte
-pub call-place : (bs : List ℕ) (at : ℕ) (call : Call) → callAt bs at ≡ CallRead.Good call → goesIn 1 (placeOf call) ≡ true
-call-place bs at call e =
-    and-left (goesIn 1 (placeOf call)) (goesIn 2 (keyOf call) && goesIn 4 (newValueOf call)) (calls .reads bs at call .0 e .0)
+pub call_place : (bs : List ℕ) (at : ℕ) (call : Call) → call_at bs at ≡ CallRead.Good call → goes_in 1 (place_of call) ≡ true
+call_place bs at call e =
+    and_left (goes_in 1 (place_of call)) (goes_in 2 (key_of call) && goes_in 4 (new_value_of call)) ((calls.reads bs at call).0 e).0
 
 -- WRITING
 
 -- where the answer has a record and there is room, its record is put
-pub written-is : (bs : List ℕ) (to : ℕ) (reply : Reply) → goesIn 1 (reply .place) ≡ true → valueOf (reply .answer) < 256 ^ 4
-    → to + answerBytes ≤ length bs → writtenAnswer bs to reply .bytes ≡ putAt bs to (answerRecord reply)
-unfolding writtenAnswer
-written-is bs to reply p v h =
-    let fits : replyFits reply ≡ true = rw (p, lt-ltb (valueOf (reply .answer)) (256 ^ 4) v) in
-    let room : leb (to + length (answerRecord reply)) (length bs) ≡ true =
-    rw answer-length (le-leb (to + answerBytes) (length bs) h) in
+pub written_is : (bs : List ℕ) (to : ℕ) (reply : Reply) → goes_in 1 reply.place ≡ true → value_of reply.answer < 256 ^ 4
+    → to + answer_bytes ≤ length bs → (written_answer bs to reply).bytes ≡ put_at bs to (answer_record reply)
+unfolding written_answer
+written_is bs to reply p v h =
+    let fits : reply_fits reply ≡ true = rw (p, lt-ltb (value_of reply.answer) (256 ^ 4) v) in
+    let room : leb (to + length (answer_record reply)) (length bs) ≡ true =
+    rw answer_length (le-leb (to + answer_bytes) (length bs) h) in
     rw (fits, room)
 
 -- ONE RECORD
 
-module _ (st : Store) (answers : List ℕ) (to : ℕ) (room : to + answerBytes ≤ length answers) where
+module _ (st : Store) (answers : List ℕ) (to : ℕ) (room : to + answer_bytes ≤ length answers) where
   -- what `reply_to` hands back: the step done, and its answer in the lent bytes
-  pub replied : (call : Call) (r : Answered) (ws′ : List ℕ) (place : ℕ) (value : ℕ) (w : Answer) (answers′ : List ℕ)
-      → goesIn 1 (placeOf call) ≡ true → outcome r ws′ ≡ step st call → place ≡ placeOf call
-      → value ≡ valueOf (r .answer) → value < 256 ^ 4
-      → wrote w answers′ ≡ writtenAnswer answers to (record { place = place; answer = r .answer })
-      → oneAnswered (record { board = r .board; good = true }) ws′ answers′ ≡ answerOne st (CallRead.Good call) answers to
-  replied call r ws′ place value w answers′ g o p v h wr =
-      let byte : goesIn 1 place ≡ true = ap (goesIn 1) p ∙ g in
-      let small : valueOf (r .answer) < 256 ^ 4 = omega arith in
-      let named : r .answer ≡ answerOf (step st call .said .number) (step st call .said .value) =
-      sym (answer-named (r .answer)) ∙ (λ i. answerOf (o i .said .number) (o i .said .value)) in
-      let put : answers′ ≡ putAt answers to (answerRecord (replyTo (pairOf st call))) =
-      ap (λ (s : Written). s .bytes) wr
-      ∙ written-is answers to (record { place = place; answer = r .answer }) byte small room
-      ∙ (λ i. putAt answers to (answerRecord (record { place = p i; answer = named i }))) in
-      λ i. record { store = o i .store; answers = put i; good = true }
+  pub replied : (call : Call) (r : Answered) (ws' : List ℕ) (place : ℕ) (value : ℕ) (w : Answer) (answers' : List ℕ)
+      → goes_in 1 (place_of call) ≡ true → outcome r ws' ≡ step st call → place ≡ place_of call
+      → value ≡ value_of r.answer → value < 256 ^ 4
+      → wrote w answers' ≡ written_answer answers to (record { place = place; answer = r.answer })
+      → one_answered (record { board = r.board; good = true }) ws' answers' ≡ answer_one st (CallRead.Good call) answers to
+  replied call r ws' place value w answers' g o p v h wr =
+      let byte : goes_in 1 place ≡ true = ap (goes_in 1) p ∙ g in
+      let small : value_of r.answer < 256 ^ 4 = omega arith in
+      let named : r.answer ≡ answer_of (step st call).said.number (step st call).said.value =
+      sym (answer_named r.answer) ∙ (λ i. answer_of (o i).said.number (o i).said.value) in
+      let put : answers' ≡ put_at answers to (answer_record (reply_to (pair_of st call))) =
+      ap (λ (s : Written). s.bytes) wr
+      ∙ written_is answers to (record { place = place; answer = r.answer }) byte small room
+      ∙ (λ i. put_at answers to (answer_record (record { place = p i; answer = named i }))) in
+      λ i. record { store = (o i).store; answers = put i; good = true }
 
 -- what `no_call` leaves in lent bytes that have room
-pub no-call-put : (answers : List ℕ) (to : ℕ) (answers′ : List ℕ) → to + answerBytes ≤ length answers
-    → answers′ ≡ writtenAnswer answers to noCall .bytes → answers′ ≡ putAt answers to (answerRecord noCall)
-no-call-put answers to answers′ room wr = wr ∙ written-is answers to noCall refl (lit< tt) room
+pub no_call_put : (answers : List ℕ) (to : ℕ) (answers' : List ℕ) → to + answer_bytes ≤ length answers
+    → answers' ≡ (written_answer answers to no_call).bytes → answers' ≡ put_at answers to (answer_record no_call)
+no_call_put answers to answers' room wr = wr ∙ written_is answers to no_call refl (lit< tt) room
 
 -- what `answer_at` hands back: what was read decides
 pub answered : (st : Store) (bytes : List ℕ) (at : ℕ) (answers : List ℕ) (to : ℕ) (o : OneAnswered) (read : CallRead)
-    → callAt bytes at ≡ read → o ≡ answerOne st read answers to → o ≡ answerOne st (callAt bytes at) answers to
-answered st bytes at answers to o read e h = h ∙ ap (λ (r : CallRead). answerOne st r answers to) (sym e)
+    → call_at bytes at ≡ read → o ≡ answer_one st read answers to → o ≡ answer_one st (call_at bytes at) answers to
+answered st bytes at answers to o read e h = h ∙ ap (λ (r : CallRead). answer_one st r answers to) (sym e)

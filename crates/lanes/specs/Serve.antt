@@ -1,66 +1,62 @@
 -- Call records answered one after another.
 -- Assumes nothing.
-use Prim.Native.Nat.{ℕ, zero, suc, _*_, _/_, min}
-use mathlib.Core.Bool.{Bool, true, false, cond}
-use mathlib.Core.List.{List, [], _∷_, _++_, map}
-use lib.Dec.{ltb, leb}
-use lib.ListN.{length, drop}
-use Rattle·records.specs.declared.Answer.{Answer}
-use Rattle·records.specs.declared.Call.{Call}
-use Rattle·records.specs.declared.CallRead.{CallRead}
-use Rattle·records.specs.declared.Reply.{Reply}
-use Rattle·records.specs.Answers.{placeOf}
-use Rattle·fields.specs.Bytes.{putAt}
-use Rattle·records.specs.Format.{callBytes, answerBytes, answerOf, answerRecord, callAt}
-use Rattle·steps.specs.Store.{Store, lent}
-use Rattle·steps.specs.Step.{step}
-use Rattle·steps.specs.Run.{Pair, Run, pairOf, run}
-use Rattle·lanes·specs.specs.declared.Stop.{Stop}
-use Rattle·lanes·specs.specs.declared.Served.{Served}
-use Rattle·lanes·specs.specs.declared.Next.{Next}
+use Rattle.std.specs.Prelude.{ℕ, zero, suc, ◌*◌, ◌/◌, min, Bool, true, false, cond, List, [], ◌∷◌, ◌++◌, map, ltb, leb, length, drop}
+use Rattle.records.specs.declared.Answer.{Answer}
+use Rattle.records.specs.declared.Call.{Call}
+use Rattle.records.specs.declared.CallRead.{CallRead}
+use Rattle.records.specs.declared.Reply.{Reply}
+use Rattle.records.specs.Answers.{place_of}
+use Rattle.fields.specs.Bytes.{put_at}
+use Rattle.records.specs.Format.{call_bytes, answer_bytes, answer_of, answer_record, call_at}
+use Rattle.steps.specs.Store.{Store, lent}
+use Rattle.steps.specs.Step.{step}
+use Rattle.steps.specs.Run.{Pair, Run, pair_of, run}
+use Rattle.lanes.specs.declared.Stop.{Stop}
+use Rattle.lanes.specs.declared.Served.{Served}
+use Rattle.lanes.specs.declared.Next.{Next}
 
 -- the calls behind one that was read; none from bytes that are no call
-abbrev pub readThen : CallRead → List Call → List Call
-readThen (CallRead.Good call) calls = call ∷ calls
-readThen CallRead.Record calls = []
+abbrev pub read_then : CallRead → List Call → List Call
+read_then (CallRead.Good call) calls = call ∷ calls
+read_then CallRead.Record calls = []
 
 -- the calls in so many records, up to bytes that are no call
-unfoldable pub callsIn : ℕ → List ℕ → List Call
-callsIn zero bytes = []
-callsIn (suc n) bytes = readThen (callAt bytes 0) (callsIn n (drop callBytes bytes))
+unfoldable pub calls_in : ℕ → List ℕ → List Call
+calls_in zero bytes = []
+calls_in (suc n) bytes = read_then (call_at bytes 0) (calls_in n (drop call_bytes bytes))
 
 -- one answer each, with the call's place byte
-abbrev pub replyTo : Pair → Reply
-replyTo h = record { place = placeOf (h .call); answer = answerOf (h .said .number) (h .said .value) }
+abbrev pub reply_to : Pair → Reply
+reply_to h = record { place = place_of h.call; answer = answer_of h.said.number h.said.value }
 
 -- the answers of a run of calls
-abbrev pub repliesOf : Run → List Reply
-repliesOf r = map replyTo (r .pairs)
+abbrev pub replies_of : Run → List Reply
+replies_of r = map reply_to r.pairs
 
 -- RECORD with place 0 and value 0
-abbrev pub noCall : Reply
-noCall = record { place = 0; answer = Answer.Record }
+abbrev pub no_call : Reply
+no_call = record { place = 0; answer = Answer.Record }
 
 -- the bytes of answers
-unfoldable pub recordsOf : List Reply → List ℕ
-recordsOf [] = []
-recordsOf (r ∷ rs) = answerRecord r ++ recordsOf rs
+unfoldable pub records_of : List Reply → List ℕ
+records_of [] = []
+records_of (r ∷ rs) = answer_record r ++ records_of rs
 
 -- the whole records in bytes of calls
-abbrev pub wholeCalls : List ℕ → ℕ
-wholeCalls bytes = length bytes / callBytes
+abbrev pub whole_calls : List ℕ → ℕ
+whole_calls bytes = length bytes / call_bytes
 
 -- the records that are read: whole ones, each with room for its answer
 abbrev pub tried : List ℕ → ℕ → ℕ
-tried bytes room = min (wholeCalls bytes) (room / answerBytes)
+tried bytes room = min (whole_calls bytes) (room / answer_bytes)
 
 -- after fewer calls than records that were read: RECORD, with place 0 and value 0
 abbrev pub refused : ℕ → ℕ → List ℕ
-refused calls records = cond (ltb calls records) (answerRecord noCall) []
+refused calls records = cond (ltb calls records) (answer_record no_call) []
 
 -- why it stopped: bytes that are no call; otherwise the end of the whole records, or no room for one more answer
-abbrev pub stopOf : ℕ → ℕ → ℕ → Stop
-stopOf calls records whole = cond (ltb calls records) Stop.Record (cond (leb whole records) Stop.End Stop.Room)
+abbrev pub stop_of : ℕ → ℕ → ℕ → Stop
+stop_of calls records whole = cond (ltb calls records) Stop.Record (cond (leb whole records) Stop.End Stop.Room)
 
 -- what serving comes to: the store, the bytes of the answers, how many bytes of calls were taken, and why it stopped
 pub record Service : Type 0 where
@@ -70,21 +66,21 @@ pub record Service : Type 0 where
   pub stop : Stop
 
 -- serving the first so many records: it answers record by record; at bytes that are no call it writes RECORD, and does not take them
-unfoldable pub serveFirst : ℕ → Store → List ℕ → Service
-serveFirst records st bytes =
-    let calls : List Call = callsIn records bytes in
+unfoldable pub serve_first : ℕ → Store → List ℕ → Service
+serve_first records st bytes =
+    let calls : List Call = calls_in records bytes in
     let ran : Run = run st calls in
     record {
-      store = ran .store;
-      answers = recordsOf (repliesOf ran) ++ refused (length calls) records;
-      taken = callBytes * length calls;
-      stop = stopOf (length calls) records (wholeCalls bytes);
+      store = ran.store;
+      answers = records_of (replies_of ran) ++ refused (length calls) records;
+      taken = call_bytes * length calls;
+      stop = stop_of (length calls) records (whole_calls bytes);
     }
 
 -- serving bytes of calls, with room for so many bytes of answers: up to the end of the whole records, to bytes that are no call, or
 -- until no room is left for one more answer
-unfoldable pub serveOf : Store → List ℕ → ℕ → Service
-serveOf st bytes room = serveFirst (tried bytes room) st bytes
+unfoldable pub serve_of : Store → List ℕ → ℕ → Service
+serve_of st bytes room = serve_first (tried bytes room) st bytes
 
 -- what a function of this crate handed back, with the lent words and bytes as it left them
 pub record Serving : Type 0 where
@@ -97,22 +93,22 @@ pub record Serving : Type 0 where
 -- what `serve` handed back, as such a record
 abbrev pub serving : Served → List ℕ → List ℕ → Serving
 serving r ws answers =
-    record { store = lent (r .board) ws; answers = answers; taken = r .taken; written = r .written; stop = r .stop }
+    record { store = lent r.board ws; answers = answers; taken = r.taken; written = r.written; stop = r.stop }
 
 -- serving into lent bytes: the answers from the front, the bytes past them stay
-abbrev pub intoBytes : List ℕ → Service → Serving
-intoBytes answers s =
+abbrev pub into_bytes : List ℕ → Service → Serving
+into_bytes answers s =
     record {
-      store = s .store;
-      answers = putAt answers 0 (s .answers);
-      taken = s .taken;
-      written = length (s .answers);
-      stop = s .stop;
+      store = s.store;
+      answers = put_at answers 0 s.answers;
+      taken = s.taken;
+      written = length s.answers;
+      stop = s.stop;
     }
 
 -- what serving bytes of calls into lent bytes comes to
-abbrev pub serveInto : Store → List ℕ → List ℕ → Serving
-serveInto st bytes answers = intoBytes answers (serveOf st bytes (length answers))
+abbrev pub serve_into : Store → List ℕ → List ℕ → Serving
+serve_into st bytes answers = into_bytes answers (serve_of st bytes (length answers))
 
 -- one record answered: the store after it, the lent bytes with its answer, and whether it was a call
 pub record OneAnswered : Type 0 where
@@ -121,11 +117,11 @@ pub record OneAnswered : Type 0 where
   pub good : Bool
 
 -- what answering one record handed back, as such a record
-abbrev pub oneAnswered : Next → List ℕ → List ℕ → OneAnswered
-oneAnswered r ws answers = record { store = lent (r .board) ws; answers = answers; good = r .good }
+abbrev pub one_answered : Next → List ℕ → List ℕ → OneAnswered
+one_answered r ws answers = record { store = lent r.board ws; answers = answers; good = r.good }
 
 -- a call does its step and is answered in the lent bytes; bytes that are no call change nothing of the store
-abbrev pub answerOne : Store → CallRead → List ℕ → ℕ → OneAnswered
-answerOne st (CallRead.Good call) answers to =
-    record { store = step st call .store; answers = putAt answers to (answerRecord (replyTo (pairOf st call))); good = true }
-answerOne st CallRead.Record answers to = record { store = st; answers = putAt answers to (answerRecord noCall); good = false }
+abbrev pub answer_one : Store → CallRead → List ℕ → ℕ → OneAnswered
+answer_one st (CallRead.Good call) answers to =
+    record { store = (step st call).store; answers = put_at answers to (answer_record (reply_to (pair_of st call))); good = true }
+answer_one st CallRead.Record answers to = record { store = st; answers = put_at answers to (answer_record no_call); good = false }

@@ -1,25 +1,17 @@
 // Lane calls: one call, and a run of call records into answer records.
-use records::ANSWER_BYTES;
-use records::Answer;
-use records::CALL_BYTES;
-use records::Call;
-use records::CallRead;
-use records::Reply;
-use steps::Answered;
-use steps::Board;
-ghost use mathlib.Core.Path.{_≡_};
-ghost use Prim.Native.Nat.{_+_, _≤_, min};
-ghost use mathlib.Core.Bool.{true, cond};
-ghost use lib.Dec.{leb};
-ghost use lib.ListN.{length};
-ghost use Rattle·records.specs.Answers.{placeOf};
-ghost use Rattle·records.specs.Format.{answerBytes, callAt, writtenAnswer};
-ghost use Rattle·fields.specs.Bytes.{goesIn};
-ghost use Rattle·steps.specs.Store.{lent};
-ghost use Rattle·steps.specs.Step.{outcome, step};
-ghost use Rattle·lanes·specs.specs.Serve.{noCall, serving, serveInto, oneAnswered, answerOne};
+ghost use Rattle.std.specs.Prelude.{◌≡◌, ◌+◌, ◌≤◌, min, true, cond, leb, length};
+ghost use Rattle.records.specs.Answers.{place_of};
+ghost use Rattle.records.specs.Format.{answer_bytes, call_at, written_answer};
+ghost use Rattle.fields.specs.Bytes.{goes_in};
+ghost use Rattle.steps.specs.Store.{lent};
+ghost use Rattle.steps.specs.Step.{outcome, step};
+ghost use Rattle.lanes.specs.Serve.{no_call, serving, serve_into, one_answered, answer_one};
+
+use records::{ANSWER_BYTES, Answer, CALL_BYTES, Call, CallRead, Reply};
+use steps::{Answered, Board};
 
 // Why serving stopped: fewer bytes than a call record are left, bytes that are no call, or no room for one more answer.
+#[derive(Drop)]
 pub enum Stop {
     End,
     Record,
@@ -27,6 +19,7 @@ pub enum Stop {
 }
 
 // How far serving got: the new record, how many bytes of calls were taken and of answers written, and why it stopped.
+#[derive(Drop)]
 pub struct Served {
     pub board: Board,
     pub taken: usize,
@@ -35,6 +28,7 @@ pub struct Served {
 }
 
 // The record after one call record, and whether that was a call.
+#[derive(Drop)]
 struct Next {
     board: Board,
     good: bool,
@@ -42,7 +36,7 @@ struct Next {
 
 // The step that a call names.
 pub fn call(board: Board, cells: &mut [u32], call: Call) -> Answered
-    ensures { λ r. ⌜ outcome r (now (cells .exit)) ≡ step (lent board (now (cells .entry))) call ⌝ }
+    ensures { outcome result cells.new ≡ step (lent board cells.old) call }
 {
     match call {
         Call::Start { place } => board.start(cells, place),
@@ -63,9 +57,9 @@ fn answer_at(
     answers: &mut [u8],
     to: usize,
 ) -> Next
-    requires { ⌜ to + answerBytes ≤ length (now answers) ⌝ }
-    ensures { λ r. ⌜ oneAnswered r (now (cells .exit)) (now (answers .exit))
-        ≡ answerOne (lent board (now (cells .entry))) (callAt (now (calls .entry)) at) (now (answers .entry)) to ⌝ }
+    requires { to + answer_bytes ≤ length answers.old }
+    ensures { one_answered result cells.new answers.new
+        ≡ answer_one (lent board cells.old) (call_at calls.now at) answers.old to }
 {
     let read = records::read_call(calls, at);
     match read {
@@ -82,9 +76,9 @@ fn answer_at(
 
 // Does a call that was read, and writes its answer, with the call's place byte.
 fn reply_to(board: Board, cells: &mut [u32], c: Call, answers: &mut [u8], to: usize) -> Next
-    requires { ⌜ (goesIn 1 (placeOf c) ≡ true) × (to + answerBytes ≤ length (now answers)) ⌝ }
-    ensures { λ r. ⌜ oneAnswered r (now (cells .exit)) (now (answers .exit))
-        ≡ answerOne (lent board (now (cells .entry))) (CallRead.Good c) (now (answers .entry)) to ⌝ }
+    requires { (goes_in 1 (place_of c) ≡ true) × (to + answer_bytes ≤ length answers.old) }
+    ensures { one_answered result cells.new answers.new
+        ≡ answer_one (lent board cells.old) (CallRead.Good c) answers.old to }
 {
     let a = call(board, cells, c);
     let answer = a.answer;
@@ -105,7 +99,7 @@ fn reply_to(board: Board, cells: &mut [u32], c: Call, answers: &mut [u8], to: us
 
 // Writes RECORD with place 0 and value 0 from an offset; without room for it no byte changes.
 pub fn no_call(answers: &mut [u8], to: usize)
-    ensures { λ r. ⌜ now (answers .exit) ≡ writtenAnswer (now (answers .entry)) to noCall .bytes ⌝ }
+    ensures { answers.new ≡ (written_answer answers.old to no_call).bytes }
 {
     let reply = Reply {
         place: 0,
@@ -116,7 +110,7 @@ pub fn no_call(answers: &mut [u8], to: usize)
 
 // The lesser of two numbers.
 pub fn least(a: usize, b: usize) -> usize
-    ensures { λ r. ⌜ r ≡ min a b ⌝ }
+    ensures { result ≡ min a b }
 {
     if a <= b {
         return a;
@@ -127,8 +121,8 @@ pub fn least(a: usize, b: usize) -> usize
 // Answers call records one after another: to the end of the whole records, to bytes that are no call (RECORD is written for them, and
 // they are not taken), or until no room is left for one more answer.
 pub fn serve(board: Board, cells: &mut [u32], calls: &[u8], answers: &mut [u8]) -> Served
-    ensures { λ r. ⌜ serving r (now (cells .exit)) (now (answers .exit))
-        ≡ serveInto (lent board (now (cells .entry))) (now (calls .entry)) (now (answers .entry)) ⌝ }
+    ensures { serving result cells.new answers.new
+        ≡ serve_into (lent board cells.old) calls.now answers.old }
 {
     let whole = calls.len() / CALL_BYTES;
     let records = least(whole, answers.len() / ANSWER_BYTES);
@@ -162,7 +156,7 @@ pub fn serve(board: Board, cells: &mut [u32], calls: &[u8], answers: &mut [u8]) 
 
 // Why serving stopped after records that were all calls.
 fn last_stop(whole: usize, records: usize) -> Stop
-    ensures { λ r. ⌜ r ≡ cond (leb whole records) Stop.End Stop.Room ⌝ }
+    ensures { result ≡ cond (leb whole records) Stop.End Stop.Room }
 {
     if whole <= records {
         return Stop::End;

@@ -1,129 +1,129 @@
 -- Blocks of words, of any width.
---     length-blocks, block-at            how many blocks there are, and what stands in one
---     each-left, each-none               what the blocks left say to a test: the next one and then the rest, and at the end
---     take-next, take-whole              a turn that stores element i, and the end: the first elements are those wanted, all are
---     length-written, blocks-written     values written one behind another: how many words they take, and that their blocks are theirs
---     written-turn                       a turn that writes value i
+--     length_blocks, block_at            how many blocks there are, and what stands in one
+--     each_left, each_none               what the blocks left say to a test: the next one and then the rest, and at the end
+--     take_next, take_whole              a turn that stores element i, and the end: the first elements are those wanted, all are
+--     length_written, blocks_written     values written one behind another: how many words they take, and that their blocks are theirs
+--     written_turn                       a turn that writes value i
 --     written-blocks                     what was read from blocks and is written again is the words
---     reads-last, stores-last            words read, and stored, one by one to the end
+--     reads_last, stores_last            words read, and stored, one by one to the end
 -- Assumes nothing.
-use mathlib.Core.Path.{_≡_, refl, sym, ap, _∙_}
-use mathlib.Core.Bool.{Bool, true, _&&_}
-use mathlib.Core.List.{List, [], _∷_, _++_, map, flatMap, append-assoc, append-nil}
-use Prim.Native.Nat.{ℕ, zero, suc, _+_, _*_, _<_, _≤_}
+use mathlib.Core.Path.{◌≡◌, refl, sym, ap, ◌∙◌}
+use mathlib.Core.Bool.{Bool, true, ◌&&◌}
+use mathlib.Core.List.{List, [], ◌∷◌, ◌++◌, map, flat_map, append_assoc, append-nil}
+use Prim.Native.Nat.{ℕ, zero, suc, ◌+◌, ◌*◌, ◌<◌, ◌≤◌}
 use native.Mathlib.Nat.{mul-suc, mul-zero}
 use native.Mathlib.Numerals.{add-one}
 use native.Mathlib.Omega.{arith}
-use lib.ListN.{length, getD, set, take, drop, length-append, length-drop, drop-of-length-le}
-use lib.Seq.{take-suc, take-suc-set, take-all, take-add, take-at, drop-at, drop-drop, length-take-le, sets, sets-eq}
-use Rattle·laws·specs.specs.Blocks.{blocks, each}
-use Rattle·laws·proofs.proofs.Tests.{and-left, and-right}
-use Rattle·laws·proofs.proofs.Lists.{drop-next, gets, part-gets}
+use lib.ListN.{length, get_or, set, take, drop, length-append, length-drop, drop_of_length-le}
+use lib.Seq.{take-suc, take-suc-set, take_all, take-add, take_at, drop_at, drop-drop, length-take-le, sets, sets-eq}
+use Rattle.laws.specs.Blocks.{blocks, each}
+use Rattle.laws.proofs.Tests.{and_left, and_right}
+use Rattle.laws.proofs.Lists.{drop_next, gets, part_gets}
 
 -- where the next block begins
 next : (w i : ℕ) → w * suc i ≡ w + w * i
 next w i = let e = mul-suc w i in omega arith
 
 module _ (w : ℕ) where
-  pub length-blocks : (n : ℕ) (l : List ℕ) → length (blocks w n l) ≡ n
+  pub length_blocks : (n : ℕ) (l : List ℕ) → length (blocks w n l) ≡ n
   unfolding blocks
-  length-blocks zero l = refl
-  length-blocks (suc n) l = ap suc (length-blocks n (drop w l))
+  length_blocks zero l = refl
+  length_blocks (suc n) l = ap suc (length_blocks n (drop w l))
 
-  pub block-at : (n i : ℕ) (l d : List ℕ) → i < n → getD (blocks w n l) i d ≡ take w (drop (w * i) l)
+  pub block_at : (n i : ℕ) (l d : List ℕ) → i < n → get_or (blocks w n l) i d ≡ take w (drop (w * i) l)
   unfolding blocks
-  block-at zero i l d h = absurd (omega arith)
-  block-at (suc n) zero l d h = rw mul-zero
-  block-at (suc n) (suc i) l d h =
-      block-at n i (drop w l) d (omega arith)
+  block_at zero i l d h = absurd (omega arith)
+  block_at (suc n) zero l d h = rw mul-zero
+  block_at (suc n) (suc i) l d h =
+      block_at n i (drop w l) d (omega arith)
       ∙ ap (λ (r : List ℕ). take w r) (drop-drop (w * i) w l ∙ ap (λ (k : ℕ). drop k l) (sym (next w i)))
 
   -- a test of each
   module _ (f : List ℕ → Bool) (n : ℕ) (l : List ℕ) where
-    pub each-left : (i : ℕ) {t : Bool} → i < n → f (take w (drop (w * i) l)) ≡ t
+    pub each_left : (i : ℕ) {t : Bool} → i < n → f (take w (drop (w * i) l)) ≡ t
         → each f (drop i (blocks w n l)) ≡ (t && each f (drop (i + 1) (blocks w n l)))
     unfolding each
-    each-left i h e =
-        ap (each f) (drop-next (blocks w n l) i [] (omega (arith, length-blocks n l)))
-        ∙ ap (λ (t : Bool). t && each f (drop (i + 1) (blocks w n l))) (ap f (block-at n i l [] h) ∙ e)
+    each_left i h e =
+        ap (each f) (drop_next (blocks w n l) i [] (omega (arith, length_blocks n l)))
+        ∙ ap (λ (t : Bool). t && each f (drop (i + 1) (blocks w n l))) (ap f (block_at n i l [] h) ∙ e)
 
-    pub each-none : (i : ℕ) → n ≤ i → each f (drop i (blocks w n l)) ≡ true
+    pub each_none : (i : ℕ) → n ≤ i → each f (drop i (blocks w n l)) ≡ true
     unfolding each
-    each-none i h = ap (each f) (drop-of-length-le (blocks w n l) {i = i} (omega (arith, length-blocks n l)))
+    each_none i h = ap (each f) (drop_of_length-le (blocks w n l) {i = i} (omega (arith, length_blocks n l)))
 
 -- values of a list, stored one by one
 module _ {A : Type 0} where
-  pub take-next : (l m : List A) (i : ℕ) (a d : A) → i < length l → i < length m → take i l ≡ take i m → a ≡ getD m i d
+  pub take_next : (l m : List A) (i : ℕ) (a d : A) → i < length l → i < length m → take i l ≡ take i m → a ≡ get_or m i d
       → take (i + 1) (set l i a) ≡ take (i + 1) m
-  take-next l m i a d hl hm e f =
+  take_next l m i a d hl hm e f =
       rw add-one
       (take-suc-set l i a hl ∙ ap (λ (r : List A). r ++ (a ∷ [])) e ∙ ap (λ (x : A). take i m ++ (x ∷ [])) f ∙ sym (take-suc m i d hm))
 
-  pub take-whole : (l m : List A) (n : ℕ) → length l ≡ n → length m ≡ n → take n l ≡ take n m → l ≡ m
-  take-whole l m n hl hm e = sym (take-all n l (omega arith)) ∙ e ∙ take-all n m (omega arith)
+  pub take_whole : (l m : List A) (n : ℕ) → length l ≡ n → length m ≡ n → take n l ≡ take n m → l ≡ m
+  take_whole l m n hl hm e = sym (take_all n l (omega arith)) ∙ e ∙ take_all n m (omega arith)
 
 -- values written one behind another, each in a block
 module _ {A : Type 0} (w : ℕ) (f : A → List ℕ) (wide : (a : A) → length (f a) ≡ w) where
-  pub length-written : (xs : List A) → length (flatMap f xs) ≡ w * length xs
-  unfolding flatMap
-  length-written [] = sym (mul-zero w)
-  length-written (x ∷ xs) = omega (arith, length-append (f x) (flatMap f xs), wide x, length-written xs, next w (length xs))
+  pub length_written : (xs : List A) → length (flat_map f xs) ≡ w * length xs
+  unfolding flat_map
+  length_written [] = sym (mul-zero w)
+  length_written (x ∷ xs) = omega (arith, length-append (f x) (flat_map f xs), wide x, length_written xs, next w (length xs))
 
-  pub blocks-written : (xs : List A) (past : List ℕ) → blocks w (length xs) (flatMap f xs ++ past) ≡ map f xs
-  unfolding blocks flatMap
-  blocks-written [] past = refl
-  blocks-written (x ∷ xs) past =
-      let rest = flatMap f xs ++ past in
-      let a : (f x ++ flatMap f xs) ++ past ≡ f x ++ rest = append-assoc (f x) (flatMap f xs) past in
-      rw (a, take-at (f x) rest w (wide x), drop-at (f x) rest w (wide x), blocks-written xs past)
+  pub blocks_written : (xs : List A) (past : List ℕ) → blocks w (length xs) (flat_map f xs ++ past) ≡ map f xs
+  unfolding blocks flat_map
+  blocks_written [] past = refl
+  blocks_written (x ∷ xs) past =
+      let rest = flat_map f xs ++ past in
+      let a : (f x ++ flat_map f xs) ++ past ≡ f x ++ rest = append_assoc (f x) (flat_map f xs) past in
+      rw (a, take_at (f x) rest w (wide x), drop_at (f x) rest w (wide x), blocks_written xs past)
 
-  written-next : (xs : List A) (i : ℕ) (d : A) → i < length xs
-      → flatMap f (take (suc i) xs) ≡ flatMap f (take i xs) ++ f (getD xs i d)
-  unfolding flatMap
-  written-next [] i d h = absurd (omega arith)
-  written-next (x ∷ xs) zero d h = append-nil (f x)
-  written-next (x ∷ xs) (suc i) d h =
-      ap (λ (r : List ℕ). f x ++ r) (written-next xs i d (omega arith))
-      ∙ sym (append-assoc (f x) (flatMap f (take i xs)) (f (getD xs i d)))
+  written_next : (xs : List A) (i : ℕ) (d : A) → i < length xs
+      → flat_map f (take (suc i) xs) ≡ flat_map f (take i xs) ++ f (get_or xs i d)
+  unfolding flat_map
+  written_next [] i d h = absurd (omega arith)
+  written_next (x ∷ xs) zero d h = append-nil (f x)
+  written_next (x ∷ xs) (suc i) d h =
+      ap (λ (r : List ℕ). f x ++ r) (written_next xs i d (omega arith))
+      ∙ sym (append_assoc (f x) (flat_map f (take i xs)) (f (get_or xs i d)))
 
-  pub written-turn : (l : List ℕ) (b rest : List ℕ) (xs : List A) (i : ℕ) (d : A) → w * i ≤ length l → i < length xs
-      → take (w * i) l ≡ flatMap f (take i xs) → b ≡ f (getD xs i d)
-      → take (w * (i + 1)) (take (w * i) l ++ (b ++ rest)) ≡ flatMap f (take (i + 1) xs)
-  written-turn l b rest xs i d hl hx e g =
+  pub written_turn : (l : List ℕ) (b rest : List ℕ) (xs : List A) (i : ℕ) (d : A) → w * i ≤ length l → i < length xs
+      → take (w * i) l ≡ flat_map f (take i xs) → b ≡ f (get_or xs i d)
+      → take (w * (i + 1)) (take (w * i) l ++ (b ++ rest)) ≡ flat_map f (take (i + 1) xs)
+  written_turn l b rest xs i d hl hx e g =
       let k : length (take (w * i) l ++ b) ≡ w * suc i =
       length-append (take (w * i) l) b
-      ∙ omega (arith, length-take-le (w * i) l hl, ap length g, wide (getD xs i d), next w i)
+      ∙ omega (arith, length-take-le (w * i) l hl, ap length g, wide (get_or xs i d), next w i)
       in
       rw add-one
-      (ap (λ (r : List ℕ). take (w * suc i) r) (sym (append-assoc (take (w * i) l) b rest))
-      ∙ take-at (take (w * i) l ++ b) rest (w * suc i) k
+      (ap (λ (r : List ℕ). take (w * suc i) r) (sym (append_assoc (take (w * i) l) b rest))
+      ∙ take_at (take (w * i) l ++ b) rest (w * suc i) k
       ∙ (λ j. e j ++ g j)
-      ∙ sym (written-next xs i d hx))
+      ∙ sym (written_next xs i d hx))
 
   -- read from blocks, and written again
   module _ (g : List ℕ → A) (t : List ℕ → Bool) (same : (b : List ℕ) → length b ≡ w → t b ≡ true → f (g b) ≡ b) where
     pub written-blocks : (n : ℕ) (l : List ℕ) → w * n ≤ length l → each t (blocks w n l) ≡ true
-        → flatMap f (map g (blocks w n l)) ≡ take (w * n) l
-    unfolding blocks each flatMap
+        → flat_map f (map g (blocks w n l)) ≡ take (w * n) l
+    unfolding blocks each flat_map
     written-blocks zero l h e = rw mul-zero
     written-blocks (suc n) l h e =
         let bs = blocks w n (drop w l) in
         let k : w + w * n ≤ length l = omega (arith, next w n) in
         let b : f (g (take w l)) ≡ take w l =
-        same (take w l) (length-take-le w l (omega arith)) (and-left (t (take w l)) (each t bs) e)
+        same (take w l) (length-take-le w l (omega arith)) (and_left (t (take w l)) (each t bs) e)
         in
-        let r : flatMap f (map g bs) ≡ take (w * n) (drop w l) =
-        written-blocks n (drop w l) (omega (arith, length-drop w l)) (and-right (t (take w l)) (each t bs) e)
+        let r : flat_map f (map g bs) ≡ take (w * n) (drop w l) =
+        written-blocks n (drop w l) (omega (arith, length-drop w l)) (and_right (t (take w l)) (each t bs) e)
         in
         (λ j. b j ++ r j) ∙ sym (take-add w (w * n) l) ∙ ap (λ (k : ℕ). take k l) (sym (next w n))
 
 -- words read one by one to the end
-pub reads-last : (n : ℕ) (l : List ℕ) (i : ℕ) → length l ≡ i + n → gets n l i ≡ drop i l
-reads-last n l i h = sym (part-gets n l i (omega arith)) ∙ take-all n (drop i l) (omega (arith, length-drop i l))
+pub reads_last : (n : ℕ) (l : List ℕ) (i : ℕ) → length l ≡ i + n → gets n l i ≡ drop i l
+reads_last n l i h = sym (part_gets n l i (omega arith)) ∙ take_all n (drop i l) (omega (arith, length-drop i l))
 
 -- words stored one by one to the end
-pub stores-last : (vs l : List ℕ) (i : ℕ) → length l ≡ i + length vs → sets l i vs ≡ take i l ++ vs
-stores-last vs l i h =
+pub stores_last : (vs l : List ℕ) (i : ℕ) → length l ≡ i + length vs → sets l i vs ≡ take i l ++ vs
+stores_last vs l i h =
     sets-eq vs l i (omega arith)
-    ∙ ap (λ (r : List ℕ). (take i l ++ vs) ++ r) (drop-of-length-le l {i = i + length vs} (omega arith))
+    ∙ ap (λ (r : List ℕ). (take i l ++ vs) ++ r) (drop_of_length-le l {i = i + length vs} (omega arith))
     ∙ append-nil (take i l ++ vs)

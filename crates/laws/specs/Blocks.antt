@@ -1,9 +1,6 @@
 -- Blocks: a list taken so many elements at a time.
 -- Assumes nothing.
-use mathlib.Core.Bool.{Bool, true, _&&_}
-use mathlib.Core.List.{List, [], _∷_}
-use Prim.Native.Nat.{ℕ, zero, suc}
-use lib.ListN.{take, drop}
+use Rattle.std.specs.Prelude.{Bool, true, ◌&&◌, List, [], ◌∷◌, ℕ, zero, suc, take, drop}
 
 -- so many blocks of so many words, one behind another
 unfoldable pub blocks : ℕ → ℕ → List ℕ → List (List ℕ)

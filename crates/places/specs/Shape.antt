@@ -1,30 +1,27 @@
 -- What document 01's paragraph on shape asks of the places.
 -- Assumes nothing.
-use Prim.Native.Nat.{ℕ}
-use mathlib.Core.Bool.{Bool, true, false, cond, not, _&&_, _||_}
-use mathlib.Core.List.{List, [], _∷_}
-use lib.Dec.{leb, eqb}
-use Rattle·places·specs.specs.declared.Place.{Place}
-use Rattle·places·specs.specs.Places.{isIdle}
+use Rattle.std.specs.Prelude.{ℕ, Bool, true, false, cond, not, ◌&&◌, ◌||◌, List, [], ◌∷◌, leb, eqb}
+use Rattle.places.specs.declared.Place.{Place}
+use Rattle.places.specs.Places.{is_idle}
 
 -- the places not idle
 abbrev pub held : List Place → List Place
 held [] = []
-held (p ∷ ps) = cond (isIdle (p .state)) (held ps) (p ∷ held ps)
+held (p ∷ ps) = cond (is_idle p.state) (held ps) (p ∷ held ps)
 
 -- one of the places has this transaction number
-abbrev pub hasNumber : ℕ → List Place → Bool
-hasNumber n [] = false
-hasNumber n (p ∷ ps) = eqb (p .number) n || hasNumber n ps
+abbrev pub has_number : ℕ → List Place → Bool
+has_number n [] = false
+has_number n (p ∷ ps) = eqb p.number n || has_number n ps
 
 -- transaction numbers are distinct
 abbrev pub distinct : List Place → Bool
 distinct [] = true
-distinct (p ∷ ps) = not (hasNumber (p .number) ps) && distinct ps
+distinct (p ∷ ps) = not (has_number p.number ps) && distinct ps
 
 -- the transaction number is from 1 to the start count, and the view at most the commit count
 abbrev pub counted : ℕ → ℕ → Place → Bool
-counted starts commits p = leb 1 (p .number) && leb (p .number) starts && leb (p .view) commits
+counted starts commits p = leb 1 p.number && leb p.number starts && leb p.view commits
 
 -- every one of the places passes a test
 abbrev pub each : (Place → Bool) → List Place → Bool

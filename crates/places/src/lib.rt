@@ -1,19 +1,19 @@
 // The places of a lane board: what a place is, what the shape asks of all of them, and the search for a cell that none of them keeps.
+ghost use Rattle.std.specs.Prelude.{◌≡◌, ◌&&◌, length, drop};
+ghost use Rattle.cells.specs.Cells.{cells_of};
+ghost use Rattle.places.specs.Places.{idle_place, open_place, in_state, reader_of, is_idle, is_open, is_spoiled, is_prepared};
+ghost use Rattle.places.specs.Shape.{held, has_number, distinct, counted, each};
+ghost use Rattle.places.specs.Search.{OldestAt};
+ghost use Rattle.places.specs.Spent.{reusable, held_back};
+
 use cells::Reader;
 use scans::Found;
-ghost use mathlib.Core.Path.{_≡_};
-ghost use mathlib.Core.Bool.{_&&_};
-ghost use lib.ListN.{length, drop};
-ghost use Rattle·cells.specs.Cells.{cellsOf};
-ghost use Rattle·places·specs.specs.Places.{idlePlace, openPlace, inState, readerOf, isIdle, isOpen, isSpoiled, isPrepared};
-ghost use Rattle·places·specs.specs.Shape.{held, hasNumber, distinct, counted, each};
-ghost use Rattle·places·specs.specs.Search.{OldestAt};
-ghost use Rattle·places·specs.specs.Spent.{reusable, heldBack};
 
 // Places 0 to 15.
 pub const PLACES: usize = 16;
 
 // A place is idle or has one transaction.
+#[derive(Drop)]
 pub enum State {
     Idle,
     Open,
@@ -22,6 +22,7 @@ pub enum State {
 }
 
 // A state, a transaction number and a view.
+#[derive(Drop)]
 pub struct Place {
     pub state: State,
     pub number: u32,
@@ -31,7 +32,7 @@ pub struct Place {
 impl Place {
     // An idle place has zeros beside the state.
     pub fn idle() -> Self
-        ensures { λ r. ⌜ r ≡ idlePlace ⌝ }
+        ensures { result ≡ idle_place }
     {
         Place {
             state: State::Idle,
@@ -42,7 +43,7 @@ impl Place {
 
     // An open place.
     pub fn opened(number: u32, view: u32) -> Self
-        ensures { λ r. ⌜ r ≡ openPlace number view ⌝ }
+        ensures { result ≡ open_place number view }
     {
         Place {
             state: State::Open,
@@ -53,7 +54,7 @@ impl Place {
 
     // The place in another state, its number and view as they were.
     pub fn in_state(self, state: State) -> Self
-        ensures { λ r. ⌜ r ≡ inState state self ⌝ }
+        ensures { result ≡ in_state state self }
     {
         Place {
             state,
@@ -64,7 +65,7 @@ impl Place {
 
     // Who reads here: the transaction's number and its view.
     pub fn reader(self) -> Reader
-        ensures { λ r. ⌜ r ≡ readerOf self ⌝ }
+        ensures { result ≡ reader_of self }
     {
         Reader {
             number: self.number,
@@ -74,7 +75,7 @@ impl Place {
 
     // No transaction is here.
     pub fn is_idle(self) -> bool
-        ensures { λ r. ⌜ r ≡ isIdle (self .state) ⌝ }
+        ensures { result ≡ is_idle self.state }
     {
         let s = self.state;
         match s {
@@ -87,7 +88,7 @@ impl Place {
 
     // The transaction here may do anything.
     pub fn is_open(self) -> bool
-        ensures { λ r. ⌜ r ≡ isOpen (self .state) ⌝ }
+        ensures { result ≡ is_open self.state }
     {
         let s = self.state;
         match s {
@@ -100,7 +101,7 @@ impl Place {
 
     // The transaction here met a conflict, and can only roll back.
     pub fn is_spoiled(self) -> bool
-        ensures { λ r. ⌜ r ≡ isSpoiled (self .state) ⌝ }
+        ensures { result ≡ is_spoiled self.state }
     {
         let s = self.state;
         match s {
@@ -113,7 +114,7 @@ impl Place {
 
     // The transaction here can only commit or roll back.
     pub fn is_prepared(self) -> bool
-        ensures { λ r. ⌜ r ≡ isPrepared (self .state) ⌝ }
+        ensures { result ≡ is_prepared self.state }
     {
         let s = self.state;
         match s {
@@ -126,7 +127,7 @@ impl Place {
 
     // The number is from 1 to the start count, and the view at most the commit count.
     fn is_counted(self, starts: u32, commits: u32) -> bool
-        ensures { λ r. ⌜ r ≡ counted starts commits self ⌝ }
+        ensures { result ≡ counted starts commits self }
     {
         (1 <= self.number) & (self.number <= starts) & (self.view <= commits)
     }
@@ -134,7 +135,7 @@ impl Place {
 
 // How many places are not idle.
 pub fn held_count(places: [Place; PLACES]) -> u32
-    ensures { λ r. ⌜ r ≡ length (held places) ⌝ }
+    ensures { result ≡ length (held places) }
 {
     let mut n: u32 = 0;
     let mut i = 0;
@@ -150,7 +151,7 @@ pub fn held_count(places: [Place; PLACES]) -> u32
 
 // Whether a place from `from` on that is not idle has this transaction number.
 fn has_number(places: [Place; PLACES], from: usize, number: u32) -> bool
-    ensures { λ r. ⌜ r ≡ hasNumber number (held (drop from places)) ⌝ }
+    ensures { result ≡ has_number number (held (drop from places)) }
 {
     let mut i = from;
     while i < PLACES {
@@ -165,7 +166,7 @@ fn has_number(places: [Place; PLACES], from: usize, number: u32) -> bool
 
 // Whether the transaction numbers at the places not idle are distinct.
 pub fn has_distinct(places: [Place; PLACES]) -> bool
-    ensures { λ r. ⌜ r ≡ distinct (held places) ⌝ }
+    ensures { result ≡ distinct (held places) }
 {
     let mut i = 0;
     while i < PLACES {
@@ -183,7 +184,7 @@ pub fn has_distinct(places: [Place; PLACES]) -> bool
 
 // Whether numbers and views at the places not idle are within the counts.
 pub fn has_counted(places: [Place; PLACES], starts: u32, commits: u32) -> bool
-    ensures { λ r. ⌜ r ≡ each (counted starts commits) (held places) ⌝ }
+    ensures { result ≡ each (counted starts commits) (held places) }
 {
     let mut i = 0;
     while i < PLACES {
@@ -198,7 +199,7 @@ pub fn has_counted(places: [Place; PLACES], starts: u32, commits: u32) -> bool
 
 // The lowest-numbered empty or spent cell. Every open view sees what the oldest sees, so tables of what that one sees settle most cells.
 pub fn reusable(cells: &[u32], places: [Place; PLACES]) -> Found
-    ensures { λ r. ⌜ r ≡ reusable places (cellsOf (now (cells .entry))) ⌝ }
+    ensures { result ≡ reusable places (cells_of cells.now) }
 {
     let n = cells::count(cells);
     let oldest = places[oldest_open(places)];
@@ -250,7 +251,7 @@ pub fn held_back_if(
     key: u32,
     number: u32,
 ) -> bool
-    ensures { λ r. ⌜ r ≡ (foreign && heldBack key number places (cellsOf (now (cells .entry)))) ⌝ }
+    ensures { result ≡ (foreign && held_back key number places (cells_of cells.now)) }
 {
     if foreign {
         return held_back(cells, places, key, number);
@@ -260,7 +261,7 @@ pub fn held_back_if(
 
 // An open place with the least view; any place where none is open.
 fn oldest_open(places: [Place; PLACES]) -> usize
-    ensures { λ r. ⌜ OldestAt places r ⌝ }
+    ensures { OldestAt places result }
 {
     let mut r = 0;
     let mut j = 0;
@@ -278,7 +279,7 @@ fn oldest_open(places: [Place; PLACES]) -> usize
 
 // Whether a foreign cell of the key has the number of a transaction at a prepared place.
 pub fn held_back(cells: &[u32], places: [Place; PLACES], key: u32, number: u32) -> bool
-    ensures { λ r. ⌜ r ≡ heldBack key number places (cellsOf (now (cells .entry))) ⌝ }
+    ensures { result ≡ held_back key number places (cells_of cells.now) }
 {
     let mut j = 0;
     while j < PLACES {

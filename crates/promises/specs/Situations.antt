@@ -1,22 +1,18 @@
 -- The situations on the road that document 01 marks with P, 1 to 10, in its words.
 -- Assumes nothing.
-use Prim.Native.Nat.{ℕ}
-use mathlib.Core.Bool.{Bool, true, false, _&&_}
-use mathlib.Core.List.{List, [], _∷_, _++_}
-use lib.Dec.{eqb}
-use lib.ListN.{getD}
-use Rattle·records.specs.declared.Call.{Call}
-use Rattle·records.specs.declared.Answer.{Answer}
-use Rattle·cells.specs.declared.Cell.{Cell}
-use Rattle·cells.specs.Cells.{noCell}
-use Rattle·steps.specs.Store.{Said, freshStore, cellsIn, saidOf}
-use Rattle·cells.specs.Rules.{draft}
-use Rattle·steps.specs.Run.{Pair, callsOf, run}
+use Rattle.std.specs.Prelude.{ℕ, Bool, true, false, ◌&&◌, List, [], ◌∷◌, ◌++◌, eqb, get_or}
+use Rattle.records.specs.declared.Call.{Call}
+use Rattle.records.specs.declared.Answer.{Answer}
+use Rattle.cells.specs.declared.Cell.{Cell}
+use Rattle.cells.specs.Cells.{no_cell}
+use Rattle.steps.specs.Store.{Said, fresh_store, cells_in, said_of}
+use Rattle.cells.specs.Rules.{draft}
+use Rattle.steps.specs.Run.{Pair, calls_of, run}
 
-infix 70 _gives_
+infix 70 ◌gives◌
 -- the call is to be answered so
-abbrev pub _gives_ : Call → Answer → Pair
-_gives_ c a = record { call = c; said = saidOf a }
+abbrev pub ◌gives◌ : Call → Answer → Pair
+◌gives◌ c a = record { call = c; said = said_of a }
 
 -- a cell, and what it is to hold after the last call
 pub record Used : Type 0 where
@@ -30,48 +26,48 @@ pub record Situation : Type 0 where
   pub used : List Used
 
 -- whether two cells have the same four words
-abbrev pub sameCell : Cell → Cell → Bool
-sameCell c d = eqb (c .word) (d .word) && eqb (c .value) (d .value) && eqb (c .number) (d .number) && eqb (c .commit) (d .commit)
+abbrev pub same_cell : Cell → Cell → Bool
+same_cell c d = eqb c.word d.word && eqb c.value d.value && eqb c.number d.number && eqb c.commit d.commit
 
 -- whether the cells used hold what they are to hold
-abbrev pub allUsed : List Cell → List Used → Bool
-allUsed cs [] = true
-allUsed cs (u ∷ us) = sameCell (getD cs (u .at) noCell) (u .cell) && allUsed cs us
+abbrev pub all_used : List Cell → List Used → Bool
+all_used cs [] = true
+all_used cs (u ∷ us) = same_cell (get_or cs u.at no_cell) u.cell && all_used cs us
 
 -- whether two answers say the same
-abbrev pub sameSaid : Said → Said → Bool
-sameSaid x y = eqb (x .number) (y .number) && eqb (x .value) (y .value)
+abbrev pub same_said : Said → Said → Bool
+same_said x y = eqb x.number y.number && eqb x.value y.value
 
 -- whether each call was answered as it was to be
-abbrev pub samePairs : List Pair → List Pair → Bool
-samePairs [] [] = true
-samePairs [] (h ∷ hs) = false
-samePairs (g ∷ gs) [] = false
-samePairs (g ∷ gs) (h ∷ hs) = sameSaid (g .said) (h .said) && samePairs gs hs
+abbrev pub same_pairs : List Pair → List Pair → Bool
+same_pairs [] [] = true
+same_pairs [] (h ∷ hs) = false
+same_pairs (g ∷ gs) [] = false
+same_pairs (g ∷ gs) (h ∷ hs) = same_said g.said h.said && same_pairs gs hs
 
 -- the situation holds, on a fresh board: every call answers with the expected number and value, and the cells used are as said
 abbrev pub holds : Situation → Bool
 holds s =
-    let r = run (freshStore (s .cells)) (callsOf (s .pairs)) in
-    samePairs (r .pairs) (s .pairs) && allUsed (cellsIn (r .store)) (s .used)
+    let r = run (fresh_store s.cells) (calls_of s.pairs) in
+    same_pairs r.pairs s.pairs && all_used (cells_in r.store) s.used
 
 -- whether each situation of a list holds
-abbrev pub allHold : List Situation → Bool
-allHold [] = true
-allHold (s ∷ ss) = holds s && allHold ss
+abbrev pub all_hold : List Situation → Bool
+all_hold [] = true
+all_hold (s ∷ ss) = holds s && all_hold ss
 
 -- boards are fresh with 4 cells unless said; two cells in cases 8 and 9, one in case 7
-abbrev pub onFresh : ℕ → List Pair → Situation
-onFresh cells hs = record { cells = cells; pairs = hs; used = [] }
+abbrev pub on_fresh : ℕ → List Pair → Situation
+on_fresh cells hs = record { cells = cells; pairs = hs; used = [] }
 
 -- 1. start at 0, read key 7: 0.
 abbrev pub case1 : Situation
-case1 = onFresh 4 (Call.Start 0 gives Answer.Ok 1 ∷ Call.Read 0 7 gives Answer.Ok 0 ∷ [])
+case1 = on_fresh 4 (Call.Start 0 gives Answer.Ok 1 ∷ Call.Read 0 7 gives Answer.Ok 0 ∷ [])
 
 -- 2. place 0 starts and updates 7 to 12; place 1 starts and reads 7: 0. Place 0 commits. Place 1 reads 7: still 0. Place 1 updates 7
 -- to 0: CONFLICT. This is the second release.
-abbrev pub secondRelease : List Pair
-secondRelease =
+abbrev pub second_release : List Pair
+second_release =
     Call.Start 0 gives Answer.Ok 1
     ∷ Call.Update 0 7 12 gives Answer.Ok 0
     ∷ Call.Start 1 gives Answer.Ok 2
@@ -83,13 +79,13 @@ secondRelease =
 
 -- 2. This is the second release.
 abbrev pub case2 : Situation
-case2 = onFresh 4 secondRelease
+case2 = on_fresh 4 second_release
 
 -- 3. after 2, place 1 reads: SPOILED; rolls back: OK; starts: transaction 3; reads 7: 12.
 abbrev pub case3 : Situation
 case3 =
-    onFresh 4
-    (secondRelease
+    on_fresh 4
+    (second_release
     ++ Call.Read 1 7 gives Answer.Spoiled
     ∷ Call.Rollback 1 gives Answer.Ok 0
     ∷ Call.Start 1 gives Answer.Ok 3
@@ -99,7 +95,7 @@ case3 =
 -- 4. 0 and 1 open; 0 updates 5; 1 updates 5: CONFLICT. 0 rolls back; 1 reads 5: SPOILED still.
 abbrev pub case4 : Situation
 case4 =
-    onFresh 4
+    on_fresh 4
     (Call.Start 0 gives Answer.Ok 1
     ∷ Call.Start 1 gives Answer.Ok 2
     ∷ Call.Update 0 5 1 gives Answer.Ok 0
@@ -111,7 +107,7 @@ case4 =
 -- 5. 0 and 1 open, both read 1 and 2; 0 updates 1, 1 updates 2; both commit. Snapshot isolation allows it.
 abbrev pub case5 : Situation
 case5 =
-    onFresh 4
+    on_fresh 4
     (Call.Start 0 gives Answer.Ok 1
     ∷ Call.Start 1 gives Answer.Ok 2
     ∷ Call.Read 0 1 gives Answer.Ok 0
@@ -127,7 +123,7 @@ case5 =
 -- 6. 0 and 1 open; 0 updates 9 to 3 and prepares; 1 reads 9: PREPARED. 0 rolls back; 1 reads 9: 0.
 abbrev pub case6 : Situation
 case6 =
-    onFresh 4
+    on_fresh 4
     (Call.Start 0 gives Answer.Ok 1
     ∷ Call.Start 1 gives Answer.Ok 2
     ∷ Call.Update 0 9 3 gives Answer.Ok 0
@@ -138,15 +134,15 @@ case6 =
     ∷ [])
 
 -- commit key 0 as 1 with commit number 1
-abbrev pub firstCommit : List Pair
-firstCommit = Call.Start 0 gives Answer.Ok 1 ∷ Call.Update 0 0 1 gives Answer.Ok 0 ∷ Call.Commit 0 gives Answer.Ok 1 ∷ []
+abbrev pub first_commit : List Pair
+first_commit = Call.Start 0 gives Answer.Ok 1 ∷ Call.Update 0 0 1 gives Answer.Ok 0 ∷ Call.Commit 0 gives Answer.Ok 1 ∷ []
 
 -- 7. one cell. Commit key 0 with commit number 1. A new transaction updating key 0: FULL; key 1: FULL.
 -- FULL does not spoil, so one transaction tries both.
 abbrev pub case7 : Situation
 case7 =
-    onFresh 1
-    (firstCommit
+    on_fresh 1
+    (first_commit
     ++ Call.Start 0 gives Answer.Ok 2
     ∷ Call.Update 0 0 5 gives Answer.Full
     ∷ Call.Update 0 1 5 gives Answer.Full
@@ -159,7 +155,7 @@ case8 =
     record {
       cells = 2;
       pairs =
-          firstCommit
+          first_commit
           ++ Call.Start 0 gives Answer.Ok 2
           ∷ Call.Update 0 0 2 gives Answer.Ok 0
           ∷ Call.Commit 0 gives Answer.Ok 2
@@ -173,8 +169,8 @@ case8 =
 -- Place 5 opens before the second writer does: the other order gives the same. That it stays open its last read shows.
 abbrev pub case9 : Situation
 case9 =
-    onFresh 2
-    (firstCommit
+    on_fresh 2
+    (first_commit
     ++ Call.Start 5 gives Answer.Ok 2
     ∷ Call.Start 0 gives Answer.Ok 3
     ∷ Call.Update 0 0 2 gives Answer.Ok 0
@@ -187,7 +183,7 @@ case9 =
 -- 10. key 255 is taken, 256 is KEY; place 15 is taken, 16 is PLACE.
 abbrev pub case10 : Situation
 case10 =
-    onFresh 4
+    on_fresh 4
     (Call.Start 15 gives Answer.Ok 1
     ∷ Call.Update 15 255 6 gives Answer.Ok 0
     ∷ Call.Read 15 255 gives Answer.Ok 6

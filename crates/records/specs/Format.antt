@@ -1,124 +1,120 @@
 -- Records: a call's ten bytes and an answer's eight; what reading and writing one at an offset give.
 -- Assumes nothing.
-use mathlib.Core.Bool.{Bool, _&&_, cond}
-use mathlib.Core.List.{List, [], _∷_, _++_}
-use Prim.Native.Nat.{ℕ, _+_}
-use lib.Dec.{leb}
-use lib.ListN.{length, getD, take, drop}
-use Rattle·fields.specs.Bytes.{bytesOf, numberIn, goesIn, sameBytes, putAt}
-use Rattle·records·specs.specs.declared.Answer.{Answer}
-use Rattle·records·specs.specs.declared.AnswerRead.{AnswerRead}
-use Rattle·records·specs.specs.declared.Call.{Call}
-use Rattle·records·specs.specs.declared.CallRead.{CallRead}
-use Rattle·records·specs.specs.declared.Reply.{Reply}
-use Rattle·records·specs.specs.Answers.{numberOf, valueOf, placeOf}
+use Rattle.std.specs.Prelude.{Bool, ◌&&◌, cond, List, [], ◌∷◌, ◌++◌, ℕ, ◌+◌, leb, length, get_or, take, drop}
+use Rattle.fields.specs.Bytes.{bytes_of, number_in, goes_in, same_bytes, put_at}
+use Rattle.records.specs.declared.Answer.{Answer}
+use Rattle.records.specs.declared.AnswerRead.{AnswerRead}
+use Rattle.records.specs.declared.Call.{Call}
+use Rattle.records.specs.declared.CallRead.{CallRead}
+use Rattle.records.specs.declared.Reply.{Reply}
+use Rattle.records.specs.Answers.{number_of, value_of, place_of}
 
 -- Call, 10 bytes
-abbrev pub callBytes : ℕ
-callBytes = 10
+abbrev pub call_bytes : ℕ
+call_bytes = 10
 
 -- Answer, 8 bytes
-abbrev pub answerBytes : ℕ
-answerBytes = 8
+abbrev pub answer_bytes : ℕ
+answer_bytes = 8
 
 -- kind (1 start, 2 read, 3 update, 4 prepare, 5 commit, 6 rollback)
-abbrev pub kindOf : Call → ℕ
-kindOf (Call.Start place) = 1
-kindOf (Call.Read place key) = 2
-kindOf (Call.Update place key value) = 3
-kindOf (Call.Prepare place) = 4
-kindOf (Call.Commit place) = 5
-kindOf (Call.Rollback place) = 6
+abbrev pub kind_of : Call → ℕ
+kind_of (Call.Start place) = 1
+kind_of (Call.Read place key) = 2
+kind_of (Call.Update place key value) = 3
+kind_of (Call.Prepare place) = 4
+kind_of (Call.Commit place) = 5
+kind_of (Call.Rollback place) = 6
 
 -- key is zero except in kinds 2 and 3
-abbrev pub keyOf : Call → ℕ
-keyOf (Call.Start place) = 0
-keyOf (Call.Read place key) = key
-keyOf (Call.Update place key value) = key
-keyOf (Call.Prepare place) = 0
-keyOf (Call.Commit place) = 0
-keyOf (Call.Rollback place) = 0
+abbrev pub key_of : Call → ℕ
+key_of (Call.Start place) = 0
+key_of (Call.Read place key) = key
+key_of (Call.Update place key value) = key
+key_of (Call.Prepare place) = 0
+key_of (Call.Commit place) = 0
+key_of (Call.Rollback place) = 0
 
 -- value zero except in kind 3
-abbrev pub newValueOf : Call → ℕ
-newValueOf (Call.Start place) = 0
-newValueOf (Call.Read place key) = 0
-newValueOf (Call.Update place key value) = value
-newValueOf (Call.Prepare place) = 0
-newValueOf (Call.Commit place) = 0
-newValueOf (Call.Rollback place) = 0
+abbrev pub new_value_of : Call → ℕ
+new_value_of (Call.Start place) = 0
+new_value_of (Call.Read place key) = 0
+new_value_of (Call.Update place key value) = value
+new_value_of (Call.Prepare place) = 0
+new_value_of (Call.Commit place) = 0
+new_value_of (Call.Rollback place) = 0
 
 -- Call: 43 4C, kind, place byte, key in two bytes, value in four
-abbrev pub callLayout : ℕ → ℕ → ℕ → ℕ → List ℕ
-callLayout kind place key value = 0x43 ∷ (0x4C ∷ (kind ∷ (bytesOf 1 place ++ (bytesOf 2 key ++ bytesOf 4 value))))
+abbrev pub call_layout : ℕ → ℕ → ℕ → ℕ → List ℕ
+call_layout kind place key value = 0x43 ∷ (0x4C ∷ (kind ∷ (bytes_of 1 place ++ (bytes_of 2 key ++ bytes_of 4 value))))
 
 -- Answer: 41 4E, refusal number 0 to 12, place byte, value in four
-abbrev pub answerLayout : ℕ → ℕ → ℕ → List ℕ
-answerLayout number place value = 0x41 ∷ (0x4E ∷ (number ∷ (bytesOf 1 place ++ bytesOf 4 value)))
+abbrev pub answer_layout : ℕ → ℕ → ℕ → List ℕ
+answer_layout number place value = 0x41 ∷ (0x4E ∷ (number ∷ (bytes_of 1 place ++ bytes_of 4 value)))
 
 -- the record of a call: its kind, place, key and value
-unfoldable pub callRecord : Call → List ℕ
-callRecord c = callLayout (kindOf c) (placeOf c) (keyOf c) (newValueOf c)
+unfoldable pub call_record : Call → List ℕ
+call_record c = call_layout (kind_of c) (place_of c) (key_of c) (new_value_of c)
 
 -- the record of an answer with its place. With a number from 1 to 12 the value is zero.
-unfoldable pub answerRecord : Reply → List ℕ
-answerRecord r = answerLayout (numberOf (r .answer)) (r .place) (valueOf (r .answer))
+unfoldable pub answer_record : Reply → List ℕ
+answer_record r = answer_layout (number_of r.answer) r.place (value_of r.answer)
 
 -- a call has a record if its place goes into a byte, its key into two and its value into four
-abbrev pub callFits : Call → Bool
-callFits c = goesIn 1 (placeOf c) && (goesIn 2 (keyOf c) && goesIn 4 (newValueOf c))
+abbrev pub call_fits : Call → Bool
+call_fits c = goes_in 1 (place_of c) && (goes_in 2 (key_of c) && goes_in 4 (new_value_of c))
 
 -- an answer has a record if its place goes into a byte and its value into four
-abbrev pub replyFits : Reply → Bool
-replyFits r = goesIn 1 (r .place) && goesIn 4 (valueOf (r .answer))
+abbrev pub reply_fits : Reply → Bool
+reply_fits r = goes_in 1 r.place && goes_in 4 (value_of r.answer)
 
 -- the calls with a place, a key and a value in the order of their kinds; 0 is no kind, and gets one whose record has another
-abbrev pub callsOf : ℕ → ℕ → ℕ → List Call
-callsOf place key value =
+abbrev pub calls_of : ℕ → ℕ → ℕ → List Call
+calls_of place key value =
     Call.Rollback place ∷ (Call.Start place ∷ (Call.Read place key ∷ (Call.Update place key value ∷
     (Call.Prepare place ∷ (Call.Commit place ∷ [])))))
 
 -- the answers with a value in the order of their numbers
-abbrev pub answersOf : ℕ → List Answer
-answersOf value =
+abbrev pub answers_of : ℕ → List Answer
+answers_of value =
     Answer.Ok value ∷ (Answer.Board ∷ (Answer.Place ∷ (Answer.Busy ∷ (Answer.Idle ∷ (Answer.Worn ∷ (Answer.Spoiled ∷
     (Answer.Held ∷ (Answer.Key ∷ (Answer.Conflict ∷ (Answer.Prepared ∷ (Answer.Full ∷ [])))))))))))
 
 -- the call that a kind, a place, a key and a value name, with kind 6 for every kind past the list
-abbrev pub callOf : ℕ → ℕ → ℕ → ℕ → Call
-callOf kind place key value = getD (callsOf place key value) kind (Call.Rollback place)
+abbrev pub call_of : ℕ → ℕ → ℕ → ℕ → Call
+call_of kind place key value = get_or (calls_of place key value) kind (Call.Rollback place)
 
 -- the answer that a number and a value name, with number 12 for every number past the list
-abbrev pub answerOf : ℕ → ℕ → Answer
-answerOf number value = getD (answersOf value) number Answer.Record
+abbrev pub answer_of : ℕ → ℕ → Answer
+answer_of number value = get_or (answers_of value) number Answer.Record
 
 -- the one call that ten bytes could be the record of
-unfoldable pub callFrom : List ℕ → Call
-callFrom bs = callOf (getD bs 2 0) (getD bs 3 0) (numberIn (take 2 (drop 4 bs))) (numberIn (take 4 (drop 6 bs)))
+unfoldable pub call_from : List ℕ → Call
+call_from bs = call_of (get_or bs 2 0) (get_or bs 3 0) (number_in (take 2 (drop 4 bs))) (number_in (take 4 (drop 6 bs)))
 
 -- the one answer, with its place, that eight bytes could be the record of
-unfoldable pub replyFrom : List ℕ → Reply
-replyFrom bs = record { place = getD bs 3 0; answer = answerOf (getD bs 2 0) (numberIn (take 4 (drop 4 bs))) }
+unfoldable pub reply_from : List ℕ → Reply
+reply_from bs = record { place = get_or bs 3 0; answer = answer_of (get_or bs 2 0) (number_in (take 4 (drop 4 bs))) }
 
 -- reading bytes: the one value that they could be the record of, if they are its record
-abbrev pub foundIn : {A R : Type 0} → (A → List ℕ) → (List ℕ → A) → (A → R) → R → List ℕ → R
-foundIn rec from good none bs = cond (sameBytes bs (rec (from bs))) (good (from bs)) none
+abbrev pub found_in : {A R : Type 0} → (A → List ℕ) → (List ℕ → A) → (A → R) → R → List ℕ → R
+found_in rec from good none bs = cond (same_bytes bs (rec (from bs))) (good (from bs)) none
 
 -- the call that the bytes are the record of; RECORD for bytes that are no call record
-unfoldable pub callIn : List ℕ → CallRead
-callIn bs = foundIn callRecord callFrom CallRead.Good CallRead.Record bs
+unfoldable pub call_in : List ℕ → CallRead
+call_in bs = found_in call_record call_from CallRead.Good CallRead.Record bs
 
 -- the answer that the bytes are the record of; RECORD for bytes that are no answer record
-unfoldable pub answerIn : List ℕ → AnswerRead
-answerIn bs = foundIn answerRecord replyFrom AnswerRead.Good AnswerRead.Record bs
+unfoldable pub answer_in : List ℕ → AnswerRead
+answer_in bs = found_in answer_record reply_from AnswerRead.Good AnswerRead.Record bs
 
 -- reading takes the record at a given offset in lent bytes; an offset past the end is RECORD
-unfoldable pub callAt : List ℕ → ℕ → CallRead
-callAt bs at = callIn (take callBytes (drop at bs))
+unfoldable pub call_at : List ℕ → ℕ → CallRead
+call_at bs at = call_in (take call_bytes (drop at bs))
 
 -- and so for an answer
-unfoldable pub answerAt : List ℕ → ℕ → AnswerRead
-answerAt bs at = answerIn (take answerBytes (drop at bs))
+unfoldable pub answer_at : List ℕ → ℕ → AnswerRead
+answer_at bs at = answer_in (take answer_bytes (drop at bs))
 
 -- what writing gives: the number and the value of the answer, and the bytes afterwards
 pub record Written : Type 0 where
@@ -128,17 +124,17 @@ pub record Written : Type 0 where
 
 -- an answer and the bytes afterwards, as what writing gives
 abbrev pub wrote : Answer → List ℕ → Written
-wrote answer bs = record { number = numberOf answer; value = valueOf answer; bytes = bs }
+wrote answer bs = record { number = number_of answer; value = value_of answer; bytes = bs }
 
 -- RECORD for what has no record, or too few bytes to write one in; on RECORD no byte changes
 abbrev pub written : Bool → List ℕ → ℕ → List ℕ → Written
 written has bs at rec =
-    cond (has && leb (at + length rec) (length bs)) (wrote (Answer.Ok 0) (putAt bs at rec)) (wrote Answer.Record bs)
+    cond (has && leb (at + length rec) (length bs)) (wrote (Answer.Ok 0) (put_at bs at rec)) (wrote Answer.Record bs)
 
 -- writing a call: RECORD for a call that has no record, or fewer than 10 bytes to write one in
-unfoldable pub writtenCall : List ℕ → ℕ → Call → Written
-writtenCall bs at call = written (callFits call) bs at (callRecord call)
+unfoldable pub written_call : List ℕ → ℕ → Call → Written
+written_call bs at call = written (call_fits call) bs at (call_record call)
 
 -- writing an answer: RECORD for an answer that has no record, or fewer than 8 bytes to write one in
-unfoldable pub writtenAnswer : List ℕ → ℕ → Reply → Written
-writtenAnswer bs at reply = written (replyFits reply) bs at (answerRecord reply)
+unfoldable pub written_answer : List ℕ → ℕ → Reply → Written
+written_answer bs at reply = written (reply_fits reply) bs at (answer_record reply)

@@ -1,11 +1,11 @@
 // Calls and answers, and their records: a call's ten bytes, an answer's eight.
-ghost use mathlib.Core.Bool.{_&&_};
-ghost use mathlib.Core.Path.{_≡_};
-ghost use Rattle·fields.specs.Bytes.{goesIn};
-ghost use Rattle·records·specs.specs.Answers.{numberOf, valueOf, placeOf};
-ghost use Rattle·records·specs.specs.Format.{kindOf, keyOf, newValueOf, callLayout, answerLayout, callOf, answerOf, callAt, answerAt, wrote, written};
-ghost use Rattle·records·specs.specs.Format.{writtenCall, writtenAnswer};
+ghost use Rattle.std.specs.Prelude.{◌&&◌, ◌≡◌};
+ghost use Rattle.fields.specs.Bytes.{goes_in};
+ghost use Rattle.records.specs.Answers.{number_of, value_of, place_of};
+ghost use Rattle.records.specs.Format.{kind_of, key_of, new_value_of, call_layout, answer_layout, call_of, answer_of, call_at, answer_at, wrote, written};
+ghost use Rattle.records.specs.Format.{written_call, written_answer};
 
+#[derive(Drop)]
 pub enum Call {
     Start { place: u32 },
     Read { place: u32, key: u32 },
@@ -15,6 +15,7 @@ pub enum Call {
     Rollback { place: u32 },
 }
 
+#[derive(Drop)]
 pub enum Answer {
     Ok(u32),
     Board,
@@ -32,18 +33,21 @@ pub enum Answer {
 }
 
 // An answer with the place byte of its record.
+#[derive(Drop)]
 pub struct Reply {
     pub place: u32,
     pub answer: Answer,
 }
 
 // What reading a call answers: OK with the call that stands at the offset, or RECORD.
+#[derive(Drop)]
 pub enum CallRead {
     Good(Call),
     Record,
 }
 
 // What reading an answer answers: OK with the answer that stands at the offset and its place, or RECORD.
+#[derive(Drop)]
 pub enum AnswerRead {
     Good(Reply),
     Record,
@@ -56,7 +60,7 @@ pub const ANSWER_BYTES: usize = 8;
 
 // The number that document 01 gives an answer.
 pub fn number(a: Answer) -> u8
-    ensures { λ r. ⌜ r ≡ numberOf a ⌝ }
+    ensures { result ≡ number_of a }
 {
     match a {
         Answer::Ok(_) => 0,
@@ -77,7 +81,7 @@ pub fn number(a: Answer) -> u8
 
 // The value of an answer: a refusal's is 0.
 pub fn value(a: Answer) -> u32
-    ensures { λ r. ⌜ r ≡ valueOf a ⌝ }
+    ensures { result ≡ value_of a }
 {
     match a {
         Answer::Ok(v) => v,
@@ -98,7 +102,7 @@ pub fn value(a: Answer) -> u32
 
 // The place that a call names.
 pub fn place_of(c: Call) -> u32
-    ensures { λ r. ⌜ r ≡ placeOf c ⌝ }
+    ensures { result ≡ place_of c }
 {
     match c {
         Call::Start { place } => place,
@@ -116,7 +120,7 @@ pub fn place_of(c: Call) -> u32
 
 // Takes the call record at an offset: OK with the call, or RECORD. The bytes are a record if they are that of the one call that they name.
 pub fn read_call(bytes: &[u8], at: usize) -> CallRead
-    ensures { λ r. ⌜ r ≡ callAt (now (bytes .entry)) at ⌝ }
+    ensures { result ≡ call_at bytes.now at }
 {
     let s = fields::part(bytes, at, CALL_BYTES);
     let key = fields::two(s, 4);
@@ -134,7 +138,7 @@ pub fn read_call(bytes: &[u8], at: usize) -> CallRead
 
 // Takes the answer record at an offset: OK with the answer and its place, or RECORD.
 pub fn read_answer(bytes: &[u8], at: usize) -> AnswerRead
-    ensures { λ r. ⌜ r ≡ answerAt (now (bytes .entry)) at ⌝ }
+    ensures { result ≡ answer_at bytes.now at }
 {
     let s = fields::part(bytes, at, ANSWER_BYTES);
     let place = fields::one(s, 3);
@@ -154,7 +158,7 @@ pub fn read_answer(bytes: &[u8], at: usize) -> AnswerRead
 
 // Writes a call's record from an offset: OK with 0, or RECORD with every byte as it was.
 pub fn write_call(bytes: &mut [u8], at: usize, call: Call) -> Answer
-    ensures { λ r. ⌜ wrote r (now (bytes .exit)) ≡ writtenCall (now (bytes .entry)) at call ⌝ }
+    ensures { wrote result bytes.new ≡ written_call bytes.old at call }
 {
     let place = place_of(call);
     let key = key_of(call);
@@ -165,7 +169,7 @@ pub fn write_call(bytes: &mut [u8], at: usize, call: Call) -> Answer
 
 // Writes an answer's record from an offset: OK with 0, or RECORD with every byte as it was.
 pub fn write_answer(bytes: &mut [u8], at: usize, reply: Reply) -> Answer
-    ensures { λ r. ⌜ wrote r (now (bytes .exit)) ≡ writtenAnswer (now (bytes .entry)) at reply ⌝ }
+    ensures { wrote result bytes.new ≡ written_answer bytes.old at reply }
 {
     let answer = reply.answer;
     let place = reply.place;
@@ -176,7 +180,7 @@ pub fn write_answer(bytes: &mut [u8], at: usize, reply: Reply) -> Answer
 
 // Writes a record from an offset, if what it is of has one and there is room for it: lends on the part from there.
 fn write(bytes: &mut [u8], at: usize, has: bool, rec: &[u8]) -> Answer
-    ensures { λ r. ⌜ wrote r (now (bytes .exit)) ≡ written has (now (bytes .entry)) at (now (rec .entry)) ⌝ }
+    ensures { wrote result bytes.new ≡ written has bytes.old at rec.now }
 {
     if has & fields::room(bytes.len(), at, rec.len()) {
         fields::put(&mut bytes[at..], rec);
@@ -188,7 +192,7 @@ fn write(bytes: &mut [u8], at: usize, has: bool, rec: &[u8]) -> Answer
 
 // The ten bytes of a call's record: CL, the kind, the place byte, the key and the value.
 fn call_record(kind: u8, place: u32, key: u32, value: u32) -> [u8; CALL_BYTES]
-    ensures { λ r. ⌜ r ≡ callLayout kind place key value ⌝ }
+    ensures { result ≡ call_layout kind place key value }
 {
     let k = fields::two_bytes(key);
     let v = fields::four_bytes(value);
@@ -208,7 +212,7 @@ fn call_record(kind: u8, place: u32, key: u32, value: u32) -> [u8; CALL_BYTES]
 
 // The eight bytes of an answer's record: AN, the number, the place byte and the value.
 fn answer_record(number: u8, place: u32, value: u32) -> [u8; ANSWER_BYTES]
-    ensures { λ r. ⌜ r ≡ answerLayout number place value ⌝ }
+    ensures { result ≡ answer_layout number place value }
 {
     let v = fields::four_bytes(value);
     [
@@ -225,7 +229,7 @@ fn answer_record(number: u8, place: u32, value: u32) -> [u8; ANSWER_BYTES]
 
 // The kind of a call in its record.
 fn kind_of(c: Call) -> u8
-    ensures { λ r. ⌜ r ≡ kindOf c ⌝ }
+    ensures { result ≡ kind_of c }
 {
     match c {
         Call::Start { place: _ } => 1,
@@ -243,7 +247,7 @@ fn kind_of(c: Call) -> u8
 
 // The key that a call names, in its record too: zero except in kinds 2 and 3.
 pub fn key_of(c: Call) -> u32
-    ensures { λ r. ⌜ r ≡ keyOf c ⌝ }
+    ensures { result ≡ key_of c }
 {
     match c {
         Call::Start { place: _ } => 0,
@@ -261,7 +265,7 @@ pub fn key_of(c: Call) -> u32
 
 // The value of a call in its record: zero except in kind 3.
 fn new_value_of(c: Call) -> u32
-    ensures { λ r. ⌜ r ≡ newValueOf c ⌝ }
+    ensures { result ≡ new_value_of c }
 {
     match c {
         Call::Start { place: _ } => 0,
@@ -279,14 +283,14 @@ fn new_value_of(c: Call) -> u32
 
 // Whether a place goes into a byte and a key into two; a value always goes into four.
 fn goes_in(place: u32, key: u32, value: u32) -> bool
-    ensures { λ r. ⌜ r ≡ (goesIn 1 place && (goesIn 2 key && goesIn 4 value)) ⌝ }
+    ensures { result ≡ (goes_in 1 place && (goes_in 2 key && goes_in 4 value)) }
 {
     (place < 256) & (key < 65536)
 }
 
 // The call that a kind, a place, a key and a value name.
 fn call_of(kind: u32, place: u32, key: u32, value: u32) -> Call
-    ensures { λ r. ⌜ r ≡ callOf kind place key value ⌝ }
+    ensures { result ≡ call_of kind place key value }
 {
     match kind {
         1 => Call::Start { place: place },
@@ -307,7 +311,7 @@ fn call_of(kind: u32, place: u32, key: u32, value: u32) -> Call
 
 // The answer that a number and a value name.
 fn answer_of(number: u32, value: u32) -> Answer
-    ensures { λ r. ⌜ r ≡ answerOf number value ⌝ }
+    ensures { result ≡ answer_of number value }
 {
     match number {
         0 => Answer::Ok(value),

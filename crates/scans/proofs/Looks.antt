@@ -1,171 +1,171 @@
 -- One look at a key's cells: what a turn and the end of the pass tell, and that the whole pass is what the rules of the four questions say.
 -- Assumes nothing.
-use mathlib.Core.Path.{_≡_, refl, sym, ap, _∙_}
-use mathlib.Core.Bool.{Bool, true, false, _&&_, _||_, or-false, or-assoc}
-use mathlib.Core.List.{List, [], _∷_}
-use Prim.Native.Nat.{ℕ, _+_, _*_, _/_, _^_, _≤_, _<_}
+use mathlib.Core.Path.{◌≡◌, refl, sym, ap, ◌∙◌}
+use mathlib.Core.Bool.{Bool, true, false, ◌&&◌, ◌||◌, or-false, or_assoc}
+use mathlib.Core.List.{List, [], ◌∷◌}
+use Prim.Native.Nat.{ℕ, ◌+◌, ◌*◌, ◌/◌, ◌^◌, ◌≤◌, ◌<◌}
 use native.Mathlib.Omega.{arith}
-use borrow.Author.Tests.{ltb-true, ltb-false, ne-eqb}
+use borrow.Author.Tests.{ltb-true, ltb-false, ne_eqb}
 use lib.Dec.{ltb}
-use lib.ListN.{length, getD, drop, List·getD-eq-default}
-use Rattle·cells.specs.declared.Cell.{Cell}
-use Rattle·cells.specs.declared.Reader.{Reader}
-use Rattle·scans·specs.specs.declared.Found.{Found}
-use Rattle·scans·specs.specs.declared.Found.the-variants.{At, Nothing}
-use Rattle·scans·specs.specs.declared.Looked.{Looked}
-use Rattle·cells.specs.Cells.{noCell, cellsOf, ofKey, own, foreign, admits}
-use Rattle·scans·specs.specs.Rules.{lowestFrom, ownAt, hasCell, hasForeign, conflict, newest, newestSeen, pickFound, lookOf}
-use Rattle·cells.specs.Rules.{mine, clashes, blocks, visible, pickCell}
-use Rattle·scans·specs.specs.Search.{lowestOf, noLook, lookTurn, pickLook, lookFrom}
-use Rattle·cells.proofs.Words.{length-cells, cell-read}
-use Rattle·scans·proofs.proofs.Scan.{cells-next, cells-end}
-use Rattle·scans·proofs.proofs.Skip.{skip}
+use lib.ListN.{length, get_or, drop, get_or-eq_default}
+use Rattle.cells.specs.declared.Cell.{Cell}
+use Rattle.cells.specs.declared.Reader.{Reader}
+use Rattle.scans.specs.declared.Found.{Found}
+use Rattle.scans.specs.declared.Found.TheVariants.{At, Nothing}
+use Rattle.scans.specs.declared.Looked.{Looked}
+use Rattle.cells.specs.Cells.{no_cell, cells_of, of_key, own, foreign, admits}
+use Rattle.scans.specs.Rules.{lowest_from, own_at, has_cell, has_foreign, conflict, newest, newest_seen, pick_found, look_of}
+use Rattle.cells.specs.Rules.{mine, clashes, blocks, visible, pick_cell}
+use Rattle.scans.specs.Search.{lowest_of, no_look, look_turn, pick_look, look_from}
+use Rattle.cells.proofs.Words.{length_cells, cell_read}
+use Rattle.scans.proofs.Scan.{cells_next, cells_end}
+use Rattle.scans.proofs.Skip.{skip}
 
 -- THE PASS
 
 module _ (key : ℕ) (r : Reader) where
   -- one cell, of the key or not
-  look-turn : (l : Looked) (i : ℕ) (c : Cell) (cs : List Cell) (t : Bool) → ofKey key c ≡ t
-      → lookFrom key r i l (c ∷ cs)
-      ≡ lookFrom key r (i + 1) (pickLook t (lookTurn r i c l) l) cs
-  unfolding lookFrom
-  look-turn l i c cs t e =
-      ap (λ (u : Bool). lookFrom key r (i + 1) (pickLook u (lookTurn r i c l) l) cs) e
+  look_turn_lem : (l : Looked) (i : ℕ) (c : Cell) (cs : List Cell) (t : Bool) → of_key key c ≡ t
+      → look_from key r i l (c ∷ cs)
+      ≡ look_from key r (i + 1) (pick_look t (look_turn r i c l) l) cs
+  unfolding look_from
+  look_turn_lem l i c cs t e =
+      ap (λ (u : Bool). look_from key r (i + 1) (pick_look u (look_turn r i c l) l) cs) e
 
-  look-ends : (l : Looked) (i j : ℕ) → lookFrom key r i l [] ≡ lookFrom key r j l []
-  unfolding lookFrom
-  look-ends l i j = refl
+  look_ends : (l : Looked) (i j : ℕ) → look_from key r i l [] ≡ look_from key r j l []
+  unfolding look_from
+  look_ends l i j = refl
 
   -- cells that are not of the key are passed over
-  pub look-skip : (l : Looked) (cs : List Cell) (i j : ℕ) → i ≤ j
-      → ((k : ℕ) → k < j → i ≤ k → ofKey key (getD cs k noCell) ≡ false)
-      → lookFrom key r i l (drop i cs) ≡ lookFrom key r j l (drop j cs)
-  look-skip l cs = skip (λ i. lookFrom key r i l) (ofKey key) (λ i c ds. look-turn l i c ds false) (look-ends l) cs
+  pub look_skip : (l : Looked) (cs : List Cell) (i j : ℕ) → i ≤ j
+      → ((k : ℕ) → k < j → i ≤ k → of_key key (get_or cs k no_cell) ≡ false)
+      → look_from key r i l (drop i cs) ≡ look_from key r j l (drop j cs)
+  look_skip l cs = skip (λ i. look_from key r i l) (of_key key) (λ i c ds. look_turn_lem l i c ds false) (look_ends l) cs
 
   -- a cell of the key is looked at
-  pub look-here : (l : Looked) (ws : List ℕ) (i : ℕ) → i < length ws / 4 → ofKey key (getD (cellsOf ws) i noCell) ≡ true
-      → lookFrom key r i l (drop i (cellsOf ws))
-      ≡ lookFrom key r (i + 1) (lookTurn r i (getD (cellsOf ws) i noCell) l) (drop (i + 1) (cellsOf ws))
-  look-here l ws i h e =
-      ap (lookFrom key r i l) (cells-next ws i h)
-      ∙ look-turn l i (getD (cellsOf ws) i noCell) (drop (i + 1) (cellsOf ws)) true e
+  pub look_here : (l : Looked) (ws : List ℕ) (i : ℕ) → i < length ws / 4 → of_key key (get_or (cells_of ws) i no_cell) ≡ true
+      → look_from key r i l (drop i (cells_of ws))
+      ≡ look_from key r (i + 1) (look_turn r i (get_or (cells_of ws) i no_cell) l) (drop (i + 1) (cells_of ws))
+  look_here l ws i h e =
+      ap (look_from key r i l) (cells_next ws i h)
+      ∙ look_turn_lem l i (get_or (cells_of ws) i no_cell) (drop (i + 1) (cells_of ws)) true e
 
-  pub look-end : (l : Looked) (ws : List ℕ) (i : ℕ) → length ws / 4 ≤ i → lookFrom key r i l (drop i (cellsOf ws)) ≡ l
-  unfolding lookFrom
-  look-end l ws i h = ap (lookFrom key r i l) (cells-end ws i h)
+  pub look_end : (l : Looked) (ws : List ℕ) (i : ℕ) → length ws / 4 ≤ i → look_from key r i l (drop i (cells_of ws)) ≡ l
+  unfolding look_from
+  look_end l ws i h = ap (look_from key r i l) (cells_end ws i h)
 
 -- WHAT THE PASS COMES TO
 
 -- the first found, otherwise the second
-abbrev orFound : Found → Found → Found
-orFound (At j) f = At j
-orFound Nothing f = f
+abbrev or_found : Found → Found → Found
+or_found (At j) f = At j
+or_found Nothing f = f
 
-or-nothing : (f : Found) → f ≡ orFound f Nothing
-or-nothing (At j) = refl
-or-nothing Nothing = refl
+or_nothing : (f : Found) → f ≡ or_found f Nothing
+or_nothing (At j) = refl
+or_nothing Nothing = refl
 
 -- one more cell, of the key or not: what each question knows after it
-own-step : (t u : Bool) (a b : Looked) (i : ℕ) (f : Found) → a .own ≡ lowestOf (b .own) u i
-    → orFound (pickLook t a b .own) f ≡ orFound (b .own) (pickFound (t && u) (At i) f)
-own-step false u a b i f e = refl
-own-step true u a b i f e = ap (λ (o : Found). orFound o f) e ∙ taken (b .own) u
+own_step : (t u : Bool) (a b : Looked) (i : ℕ) (f : Found) → a.own ≡ lowest_of b.own u i
+    → or_found (pick_look t a b).own f ≡ or_found b.own (pick_found (t && u) (At i) f)
+own_step false u a b i f e = refl
+own_step true u a b i f e = ap (λ (o : Found). or_found o f) e ∙ taken b.own u
   where
-    taken : (o : Found) (u : Bool) → orFound (lowestOf o u i) f ≡ orFound o (pickFound u (At i) f)
+    taken : (o : Found) (u : Bool) → or_found (lowest_of o u i) f ≡ or_found o (pick_found u (At i) f)
     taken (At j) u = refl
     taken Nothing true = refl
     taken Nothing false = refl
 
-abbrev pickBool : Bool → Bool → Bool → Bool
-pickBool true a b = a
-pickBool false a b = b
+abbrev pick_bool : Bool → Bool → Bool → Bool
+pick_bool true a b = a
+pick_bool false a b = b
 
-pick-foreign : (t : Bool) (a b : Looked) → pickLook t a b .foreign ≡ pickBool t (a .foreign) (b .foreign)
-pick-foreign true a b = refl
-pick-foreign false a b = refl
+pick_foreign : (t : Bool) (a b : Looked) → (pick_look t a b).foreign ≡ pick_bool t a.foreign b.foreign
+pick_foreign true a b = refl
+pick_foreign false a b = refl
 
-pick-conflict : (t : Bool) (a b : Looked) → pickLook t a b .conflict ≡ pickBool t (a .conflict) (b .conflict)
-pick-conflict true a b = refl
-pick-conflict false a b = refl
+pick_conflict : (t : Bool) (a b : Looked) → (pick_look t a b).conflict ≡ pick_bool t a.conflict b.conflict
+pick_conflict true a b = refl
+pick_conflict false a b = refl
 
-pick-newest : (t s q : Bool) (a b : Looked) (c : Cell) → a .newest ≡ pickCell (s && q) c (b .newest)
-    → pickLook t a b .newest ≡ pickCell (t && s && q) c (b .newest)
-pick-newest true s q a b c e = e
-pick-newest false s q a b c e = refl
+pick_newest : (t s q : Bool) (a b : Looked) (c : Cell) → a.newest ≡ pick_cell (s && q) c b.newest
+    → (pick_look t a b).newest ≡ pick_cell (t && s && q) c b.newest
+pick_newest true s q a b c e = e
+pick_newest false s q a b c e = refl
 
-or-step : (t a u h : Bool) (x : Bool) → x ≡ (a || u) → (pickBool t x a || h) ≡ (a || (t && u || h))
-or-step false a u h x e = refl
-or-step true a u h x e = ap (λ (y : Bool). y || h) e ∙ or-assoc a u h
+or_step : (t a u h : Bool) (x : Bool) → x ≡ (a || u) → (pick_bool t x a || h) ≡ (a || (t && u || h))
+or_step false a u h x e = refl
+or_step true a u h x e = ap (λ (y : Bool). y || h) e ∙ or_assoc a u h
 
 module _ (key : ℕ) (r : Reader) where
-  abbrev next-look : ℕ → Cell → Looked → Looked
-  next-look i c l = pickLook (ofKey key c) (lookTurn r i c l) l
+  abbrev next_look : ℕ → Cell → Looked → Looked
+  next_look i c l = pick_look (of_key key c) (look_turn r i c l) l
 
-  own-from : (cs : List Cell) (i : ℕ) (l : Looked)
-      → lookFrom key r i l cs .own ≡ orFound (l .own) (lowestFrom i (mine key (r .number)) cs)
-  unfolding lookFrom lowestFrom
-  own-from [] i l = or-nothing (l .own)
-  own-from (c ∷ cs) i l =
-      own-from cs (i + 1) (next-look i c l)
-      ∙ own-step (ofKey key c) (own (r .number) c) (lookTurn r i c l) l i (lowestFrom (i + 1) (mine key (r .number)) cs) refl
+  own_from : (cs : List Cell) (i : ℕ) (l : Looked)
+      → (look_from key r i l cs).own ≡ or_found l.own (lowest_from i (mine key r.number) cs)
+  unfolding look_from lowest_from
+  own_from [] i l = or_nothing l.own
+  own_from (c ∷ cs) i l =
+      own_from cs (i + 1) (next_look i c l)
+      ∙ own_step (of_key key c) (own r.number c) (look_turn r i c l) l i (lowest_from (i + 1) (mine key r.number) cs) refl
 
-  foreign-from : (cs : List Cell) (i : ℕ) (l : Looked)
-      → lookFrom key r i l cs .foreign ≡ (l .foreign || hasCell (λ c. ofKey key c && foreign (r .number) c) cs)
-  unfolding lookFrom hasCell
-  foreign-from [] i l = sym (or-false (l .foreign))
-  foreign-from (c ∷ cs) i l =
-      foreign-from cs (i + 1) (next-look i c l)
-      ∙ ap (λ (x : Bool). x || hasCell (λ c. ofKey key c && foreign (r .number) c) cs)
-      (pick-foreign (ofKey key c) (lookTurn r i c l) l)
-      ∙ or-step (ofKey key c) (l .foreign) (foreign (r .number) c) (hasCell (λ c. ofKey key c && foreign (r .number) c) cs) _ refl
+  foreign_from : (cs : List Cell) (i : ℕ) (l : Looked)
+      → (look_from key r i l cs).foreign ≡ (l.foreign || has_cell (λ c. of_key key c && foreign r.number c) cs)
+  unfolding look_from has_cell
+  foreign_from [] i l = sym (or-false l.foreign)
+  foreign_from (c ∷ cs) i l =
+      foreign_from cs (i + 1) (next_look i c l)
+      ∙ ap (λ (x : Bool). x || has_cell (λ c. of_key key c && foreign r.number c) cs)
+      (pick_foreign (of_key key c) (look_turn r i c l) l)
+      ∙ or_step (of_key key c) l.foreign (foreign r.number c) (has_cell (λ c. of_key key c && foreign r.number c) cs) _ refl
 
-  conflict-from : (cs : List Cell) (i : ℕ) (l : Looked)
-      → lookFrom key r i l cs .conflict ≡ (l .conflict || hasCell (blocks key r) cs)
-  unfolding lookFrom hasCell
-  conflict-from [] i l = sym (or-false (l .conflict))
-  conflict-from (c ∷ cs) i l =
-      conflict-from cs (i + 1) (next-look i c l)
-      ∙ ap (λ (x : Bool). x || hasCell (blocks key r) cs)
-      (pick-conflict (ofKey key c) (lookTurn r i c l) l)
-      ∙ or-step (ofKey key c) (l .conflict) (clashes r c) (hasCell (blocks key r) cs) _ refl
+  conflict_from : (cs : List Cell) (i : ℕ) (l : Looked)
+      → (look_from key r i l cs).conflict ≡ (l.conflict || has_cell (blocks key r) cs)
+  unfolding look_from has_cell
+  conflict_from [] i l = sym (or-false l.conflict)
+  conflict_from (c ∷ cs) i l =
+      conflict_from cs (i + 1) (next_look i c l)
+      ∙ ap (λ (x : Bool). x || has_cell (blocks key r) cs)
+      (pick_conflict (of_key key c) (look_turn r i c l) l)
+      ∙ or_step (of_key key c) l.conflict (clashes r c) (has_cell (blocks key r) cs) _ refl
 
-  newest-from : (cs : List Cell) (i : ℕ) (l : Looked)
-      → lookFrom key r i l cs .newest ≡ newest (visible key r) (l .newest) cs
-  unfolding lookFrom newest
-  newest-from [] i l = refl
-  newest-from (c ∷ cs) i l =
-      newest-from cs (i + 1) (next-look i c l)
+  newest_from : (cs : List Cell) (i : ℕ) (l : Looked)
+      → (look_from key r i l cs).newest ≡ newest (visible key r) l.newest cs
+  unfolding look_from newest
+  newest_from [] i l = refl
+  newest_from (c ∷ cs) i l =
+      newest_from cs (i + 1) (next_look i c l)
       ∙ ap (λ (b : Cell). newest (visible key r) b cs)
-      (pick-newest (ofKey key c) (admits r c) (ltb (l .newest .commit) (c .commit)) (lookTurn r i c l) l c refl)
+      (pick_newest (of_key key c) (admits r c) (ltb l.newest.commit c.commit) (look_turn r i c l) l c refl)
 
   -- the whole pass is what the rules say
-  pub look-is : (cs : List Cell) → lookFrom key r 0 noLook cs ≡ lookOf key r cs
-  unfolding ownAt hasForeign conflict newestSeen
-  look-is cs = λ i.
+  pub look_is : (cs : List Cell) → look_from key r 0 no_look cs ≡ look_of key r cs
+  unfolding own_at has_foreign conflict newest_seen
+  look_is cs = λ i.
       record {
-        own = own-from cs 0 noLook i;
-        foreign = foreign-from cs 0 noLook i;
-        conflict = conflict-from cs 0 noLook i;
-        newest = newest-from cs 0 noLook i;
+        own = own_from cs 0 no_look i;
+        foreign = foreign_from cs 0 no_look i;
+        conflict = conflict_from cs 0 no_look i;
+        newest = newest_from cs 0 no_look i;
       }
 
 -- no cell of words below 2 ^ 32 is of the last key
-none-of-last : (ws : List ℕ) → ((k : ℕ) → getD ws k 0 < 2 ^ 32) → (k : ℕ)
-    → ofKey 4_294_967_295 (getD (cellsOf ws) k noCell) ≡ false
-none-of-last ws h k = here (ltb k (length ws / 4)) refl
+none_of_last : (ws : List ℕ) → ((k : ℕ) → get_or ws k 0 < 2 ^ 32) → (k : ℕ)
+    → of_key 4_294_967_295 (get_or (cells_of ws) k no_cell) ≡ false
+none_of_last ws h k = here (ltb k (length ws / 4)) refl
   where
-    here : (t : Bool) → ltb k (length ws / 4) ≡ t → ofKey 4_294_967_295 (getD (cellsOf ws) k noCell) ≡ false
+    here : (t : Bool) → ltb k (length ws / 4) ≡ t → of_key 4_294_967_295 (get_or (cells_of ws) k no_cell) ≡ false
     here true e =
-        sym (ap (ofKey 4_294_967_295) (cell-read ws k (ltb-true _ _ e)))
-        ∙ ne-eqb (getD ws (4 * k) 0) 4_294_967_296 (λ q. omega (arith, h (4 * k)))
+        sym (ap (of_key 4_294_967_295) (cell_read ws k (ltb-true _ _ e)))
+        ∙ ne_eqb (get_or ws (4 * k) 0) 4_294_967_296 (λ q. omega (arith, h (4 * k)))
     here false e =
-        let past : length (cellsOf ws) ≤ k = omega (arith, length-cells ws, ltb-false k (length ws / 4) e) in
-        ap (ofKey 4_294_967_295) (List·getD-eq-default (cellsOf ws) noCell past)
+        let past : length (cells_of ws) ≤ k = omega (arith, length_cells ws, ltb-false k (length ws / 4) e) in
+        ap (of_key 4_294_967_295) (get_or-eq_default (cells_of ws) no_cell past)
 
 -- so nothing is seen of it
-pub look-last : (ws : List ℕ) (r : Reader) → ((k : ℕ) → getD ws k 0 < 2 ^ 32)
-    → noLook ≡ lookOf 4_294_967_295 r (cellsOf ws)
-look-last ws r h =
-    sym (look-skip 4_294_967_295 r noLook (cellsOf ws) 0 (length ws / 4) (omega arith) (λ k l g. none-of-last ws h k)
-    ∙ look-end 4_294_967_295 r noLook ws (length ws / 4) (omega arith))
-    ∙ look-is 4_294_967_295 r (cellsOf ws)
+pub look_last : (ws : List ℕ) (r : Reader) → ((k : ℕ) → get_or ws k 0 < 2 ^ 32)
+    → no_look ≡ look_of 4_294_967_295 r (cells_of ws)
+look_last ws r h =
+    sym (look_skip 4_294_967_295 r no_look (cells_of ws) 0 (length ws / 4) (omega arith) (λ k l g. none_of_last ws h k)
+    ∙ look_end 4_294_967_295 r no_look ws (length ws / 4) (omega arith))
+    ∙ look_is 4_294_967_295 r (cells_of ws)

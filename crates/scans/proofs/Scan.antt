@@ -1,96 +1,96 @@
 -- A scan of cells from the front: what one turn, and the end, tell. In each, `drop i cs` is what has yet to be looked at.
 --     lowest-..     the lowest that passes a test
 --     has-..        whether one passes
---     has-more      what passes one test passes another; has-same: tests that agree
+--     has_more      what passes one test passes another; has_same: tests that agree
 --     to-..         cells that are changed one by one, in words
 -- Assumes nothing.
-use mathlib.Core.Path.{_≡_, refl, sym, ap, _∙_}
-use mathlib.Core.Bool.{Bool, true, false, _||_}
-use mathlib.Core.Logic.{⊎-elim}
-use mathlib.Core.List.{List, [], _∷_, map}
-use Prim.Native.Nat.{ℕ, _+_, _/_, _≤_, _<_}
-use lib.ListN.{length, getD, set, drop, drop-of-length-le}
-use Rattle·cells.specs.declared.Cell.{Cell}
-use Rattle·scans·specs.specs.declared.Found.the-variants.{At, Nothing}
-use Rattle·cells.specs.Cells.{noCell, cellsOf, withCells}
-use Rattle·scans·specs.specs.Rules.{lowestFrom, hasCell}
-use Rattle·laws.proofs.Tests.{or-first, or-second, or-cases}
-use Rattle·laws.proofs.Lists.{drop-next, mapTo, mapTo-at, mapTo-next, mapTo-all, mapTo-none}
-use Rattle·cells.proofs.Words.{with-cells, cells-with, with-with, length-cells}
+use mathlib.Core.Path.{◌≡◌, refl, sym, ap, ◌∙◌}
+use mathlib.Core.Bool.{Bool, true, false, ◌||◌}
+use mathlib.Core.Logic.{⊎_elim}
+use mathlib.Core.List.{List, [], ◌∷◌, map}
+use Prim.Native.Nat.{ℕ, ◌+◌, ◌/◌, ◌≤◌, ◌<◌}
+use lib.ListN.{length, get_or, set, drop, drop_of_length-le}
+use Rattle.cells.specs.declared.Cell.{Cell}
+use Rattle.scans.specs.declared.Found.TheVariants.{At, Nothing}
+use Rattle.cells.specs.Cells.{no_cell, cells_of, with_cells}
+use Rattle.scans.specs.Rules.{lowest_from, has_cell}
+use Rattle.laws.proofs.Tests.{or_first, or_second, or_cases}
+use Rattle.laws.proofs.Lists.{drop_next, map_to, map_to_at, map_to_next, map_to_all, map_to_none}
+use Rattle.cells.proofs.Words.{with_cells_lem, cells_with, with_with, length_cells}
 
 module _ (p q : Cell → Bool) where
-  pub has-more : ((d : Cell) → p d ≡ true → q d ≡ true) → (cs : List Cell) → hasCell p cs ≡ true → hasCell q cs ≡ true
-  unfolding hasCell
-  has-more f [] e = e
-  has-more f (d ∷ cs) e =
-      ⊎-elim
-      (λ h. or-first (q d) (hasCell q cs) (f d h))
-      (λ h. or-second (q d) (hasCell q cs) (has-more f cs h))
-      (or-cases (p d) (hasCell p cs) e)
+  pub has_more : ((d : Cell) → p d ≡ true → q d ≡ true) → (cs : List Cell) → has_cell p cs ≡ true → has_cell q cs ≡ true
+  unfolding has_cell
+  has_more f [] e = e
+  has_more f (d ∷ cs) e =
+      ⊎_elim
+      (λ h. or_first (q d) (has_cell q cs) (f d h))
+      (λ h. or_second (q d) (has_cell q cs) (has_more f cs h))
+      (or_cases (p d) (has_cell p cs) e)
 
-  pub has-same : ((d : Cell) → p d ≡ q d) → (cs : List Cell) → hasCell p cs ≡ hasCell q cs
-  unfolding hasCell
-  has-same e [] = refl
-  has-same e (d ∷ cs) = λ i. e d i || has-same e cs i
+  pub has_same : ((d : Cell) → p d ≡ q d) → (cs : List Cell) → has_cell p cs ≡ has_cell q cs
+  unfolding has_cell
+  has_same e [] = refl
+  has_same e (d ∷ cs) = λ i. e d i || has_same e cs i
 
 -- a turn of a scan
 module _ (ws : List ℕ) (i : ℕ) (h : i < length ws / 4) where
-  in-cells : i < length (cellsOf ws)
-  in-cells = rw length-cells h
+  in_cells : i < length (cells_of ws)
+  in_cells = rw length_cells h
 
-  pub cells-next : drop i (cellsOf ws) ≡ getD (cellsOf ws) i noCell ∷ drop (i + 1) (cellsOf ws)
-  cells-next = drop-next (cellsOf ws) i noCell in-cells
+  pub cells_next : drop i (cells_of ws) ≡ get_or (cells_of ws) i no_cell ∷ drop (i + 1) (cells_of ws)
+  cells_next = drop_next (cells_of ws) i no_cell in_cells
 
   module _ (p : Cell → Bool) where
-    pub lowest-here : p (getD (cellsOf ws) i noCell) ≡ true → lowestFrom i p (drop i (cellsOf ws)) ≡ At i
-    unfolding lowestFrom
-    lowest-here e = rw (cells-next, e)
+    pub lowest-here : p (get_or (cells_of ws) i no_cell) ≡ true → lowest_from i p (drop i (cells_of ws)) ≡ At i
+    unfolding lowest_from
+    lowest-here e = rw (cells_next, e)
 
-    pub lowest-next : p (getD (cellsOf ws) i noCell) ≡ false
-        → lowestFrom i p (drop i (cellsOf ws)) ≡ lowestFrom (i + 1) p (drop (i + 1) (cellsOf ws))
-    unfolding lowestFrom
-    lowest-next e = rw (cells-next, e)
+    pub lowest-next : p (get_or (cells_of ws) i no_cell) ≡ false
+        → lowest_from i p (drop i (cells_of ws)) ≡ lowest_from (i + 1) p (drop (i + 1) (cells_of ws))
+    unfolding lowest_from
+    lowest-next e = rw (cells_next, e)
 
-    pub has-here : p (getD (cellsOf ws) i noCell) ≡ true → hasCell p (drop i (cellsOf ws)) ≡ true
-    unfolding hasCell
-    has-here e = rw (cells-next, e)
+    pub has_here : p (get_or (cells_of ws) i no_cell) ≡ true → has_cell p (drop i (cells_of ws)) ≡ true
+    unfolding has_cell
+    has_here e = rw (cells_next, e)
 
-    pub has-next : p (getD (cellsOf ws) i noCell) ≡ false
-        → hasCell p (drop i (cellsOf ws)) ≡ hasCell p (drop (i + 1) (cellsOf ws))
-    unfolding hasCell
-    has-next e = rw (cells-next, e)
+    pub has-next : p (get_or (cells_of ws) i no_cell) ≡ false
+        → has_cell p (drop i (cells_of ws)) ≡ has_cell p (drop (i + 1) (cells_of ws))
+    unfolding has_cell
+    has-next e = rw (cells_next, e)
 
   -- a turn that changes cell i
   module _ (f : Cell → Cell) where
     abbrev now-words : List ℕ
-    now-words = withCells ws (mapTo i f (cellsOf ws))
+    now-words = with_cells ws (map_to i f (cells_of ws))
 
-    pub to-next : withCells now-words (set (cellsOf now-words) i (f (getD (cellsOf ws) i noCell)))
-        ≡ withCells ws (mapTo (i + 1) f (cellsOf ws))
-    to-next = rw (cells-with, with-with) (ap (withCells ws) (mapTo-next i f (cellsOf ws) noCell in-cells))
+    pub to-next : with_cells now-words (set (cells_of now-words) i (f (get_or (cells_of ws) i no_cell)))
+        ≡ with_cells ws (map_to (i + 1) f (cells_of ws))
+    to-next = rw (cells_with, with_with) (ap (with_cells ws) (map_to_next i f (cells_of ws) no_cell in_cells))
 
-pub to-none : (f : Cell → Cell) (ws : List ℕ) → ws ≡ withCells ws (mapTo 0 f (cellsOf ws))
-to-none f ws = sym (ap (withCells ws) (mapTo-none f (cellsOf ws)) ∙ with-cells ws)
+pub to_none : (f : Cell → Cell) (ws : List ℕ) → ws ≡ with_cells ws (map_to 0 f (cells_of ws))
+to_none f ws = sym (ap (with_cells ws) (map_to_none f (cells_of ws)) ∙ with_cells_lem ws)
 
-pub to-at : (f : Cell → Cell) (ws : List ℕ) (i : ℕ)
-    → getD (cellsOf (withCells ws (mapTo i f (cellsOf ws)))) i noCell ≡ getD (cellsOf ws) i noCell
-to-at f ws i = rw cells-with (mapTo-at i f (cellsOf ws) noCell)
+pub to_at : (f : Cell → Cell) (ws : List ℕ) (i : ℕ)
+    → get_or (cells_of (with_cells ws (map_to i f (cells_of ws)))) i no_cell ≡ get_or (cells_of ws) i no_cell
+to_at f ws i = rw cells_with (map_to_at i f (cells_of ws) no_cell)
 
 -- the end of a scan
 module _ (ws : List ℕ) (i : ℕ) (h : length ws / 4 ≤ i) where
-  past-cells : length (cellsOf ws) ≤ i
-  past-cells = rw length-cells h
+  past_cells_lem : length (cells_of ws) ≤ i
+  past_cells_lem = rw length_cells h
 
-  pub cells-end : drop i (cellsOf ws) ≡ []
-  cells-end = drop-of-length-le (cellsOf ws) past-cells
+  pub cells_end : drop i (cells_of ws) ≡ []
+  cells_end = drop_of_length-le (cells_of ws) past_cells_lem
 
-  pub lowest-end : (p : Cell → Bool) → lowestFrom i p (drop i (cellsOf ws)) ≡ Nothing
-  unfolding lowestFrom
-  lowest-end p = rw cells-end
+  pub lowest_end : (p : Cell → Bool) → lowest_from i p (drop i (cells_of ws)) ≡ Nothing
+  unfolding lowest_from
+  lowest_end p = rw cells_end
 
-  pub has-end : (p : Cell → Bool) → hasCell p (drop i (cellsOf ws)) ≡ false
-  unfolding hasCell
-  has-end p = rw cells-end
+  pub has_end : (p : Cell → Bool) → has_cell p (drop i (cells_of ws)) ≡ false
+  unfolding has_cell
+  has_end p = rw cells_end
 
-  pub to-end : (f : Cell → Cell) → withCells ws (mapTo i f (cellsOf ws)) ≡ withCells ws (map f (cellsOf ws))
-  to-end f = ap (withCells ws) (mapTo-all i f (cellsOf ws) past-cells)
+  pub to_end : (f : Cell → Cell) → with_cells ws (map_to i f (cells_of ws)) ≡ with_cells ws (map f (cells_of ws))
+  to_end f = ap (with_cells ws) (map_to_all i f (cells_of ws) past_cells_lem)

@@ -1,21 +1,21 @@
--- The tables of newest numbers: what a turn of their pass does, and that they keep their promise, `tables-tell`.
+-- The tables of newest numbers: what a turn of their pass does, and that they keep their promise, `tables_tell`.
 -- Assumes nothing.
-use mathlib.Core.Path.{_≡_, refl, sym, ap, _∙_}
-use mathlib.Core.Bool.{Bool, true, false, cond, not, _&&_, _||_, and-false, and-comm, or-false, or-assoc}
-use mathlib.Core.List.{List, [], _∷_}
-use Prim.Native.Nat.{ℕ, _+_, _/_, _≤_, _<_}
+use mathlib.Core.Path.{◌≡◌, refl, sym, ap, ◌∙◌}
+use mathlib.Core.Bool.{Bool, true, false, cond, not, ◌&&◌, ◌||◌, and-false, and_comm, or-false, or_assoc}
+use mathlib.Core.List.{List, [], ◌∷◌}
+use Prim.Native.Nat.{ℕ, ◌+◌, ◌/◌, ◌≤◌, ◌<◌}
 use native.Mathlib.Omega.{arith}
-use borrow.Author.Tests.{ltb-true, ltb-false, lt-ltb, le-ltb, eqb-true, eqb-false, ne-eqb}
+use borrow.Author.Tests.{ltb-true, ltb-false, lt-ltb, le-ltb, eqb-true, eqb-false, ne_eqb}
 use lib.Dec.{eqb, ltb, leb}
-use lib.ListN.{length, getD, set, drop, replicate, length-set, length-replicate, getD-replicate}
-use lib.Seq.{getD-set-same, getD-set-other}
-use Rattle·cells.specs.declared.Cell.{Cell}
-use Rattle·cells.specs.declared.Reader.{Reader}
-use Rattle·cells.specs.Cells.{noCell, cellsOf, empty, committed}
-use Rattle·scans·specs.specs.Rules.{hasCell, keeps}
-use Rattle·cells.specs.Rules.{newer, between}
-use Rattle·scans·specs.specs.Tables.{allTops, raised, raisedBy, topsFrom, topsOf, anyCell, upTo, outdatedBy, surpassedIn, heldIn, TablesTell}
-use Rattle·scans·proofs.proofs.Scan.{cells-next, cells-end, has-same}
+use lib.ListN.{length, get_or, set, drop, replicate, length-set, length-replicate, get_or-replicate}
+use lib.Seq.{get_or-set_same, get_or-set_other}
+use Rattle.cells.specs.declared.Cell.{Cell}
+use Rattle.cells.specs.declared.Reader.{Reader}
+use Rattle.cells.specs.Cells.{no_cell, cells_of, empty, committed}
+use Rattle.scans.specs.Rules.{has_cell, keeps}
+use Rattle.cells.specs.Rules.{newer, between}
+use Rattle.scans.specs.Tables.{all_tops, raised, raised_by, tops_from, tops_of, any_cell, up_to, outdated_by, surpassed_in, held_in, TablesTell}
+use Rattle.scans.proofs.Scan.{cells_next, cells_end, has_same}
 
 -- THE PASS
 
@@ -24,189 +24,189 @@ module _ (t : List ℕ) (w n : ℕ) where
   abbrev chosen : Bool → List ℕ
   chosen b = cond b (set t w n) t
 
-  pub raise-store : w < allTops → getD t w 0 < n → set t w n ≡ raised t w n
-  raise-store h l = sym (λ i. chosen (lt-ltb w allTops h i && lt-ltb (getD t w 0) n l i))
+  pub raise_store : w < all_tops → get_or t w 0 < n → set t w n ≡ raised t w n
+  raise_store h l = sym (λ i. chosen (lt-ltb w all_tops h i && lt-ltb (get_or t w 0) n l i))
 
-  pub raise-leave : w < allTops → n ≤ getD t w 0 → t ≡ raised t w n
-  raise-leave h l = sym (λ i. chosen (lt-ltb w allTops h i && le-ltb (getD t w 0) n l i))
+  pub raise_leave : w < all_tops → n ≤ get_or t w 0 → t ≡ raised t w n
+  raise_leave h l = sym (λ i. chosen (lt-ltb w all_tops h i && le-ltb (get_or t w 0) n l i))
 
-  pub raise-past : allTops ≤ w → t ≡ raised t w n
-  raise-past h = sym (λ i. chosen (le-ltb w allTops h i && ltb (getD t w 0) n))
+  pub raise_past : all_tops ≤ w → t ≡ raised t w n
+  raise_past h = sym (λ i. chosen (le-ltb w all_tops h i && ltb (get_or t w 0) n))
 
   -- an uncommitted cell leaves every table as it is
-  raise-none : n ≡ 0 → t ≡ raised t w n
-  raise-none e =
-      let below : ltb (getD t w 0) n ≡ false = le-ltb (getD t w 0) n (omega arith) in
-      sym ((λ i. chosen (ltb w allTops && below i)) ∙ ap chosen (and-false (ltb w allTops)))
+  raise_none : n ≡ 0 → t ≡ raised t w n
+  raise_none e =
+      let below : ltb (get_or t w 0) n ≡ false = le-ltb (get_or t w 0) n (omega arith) in
+      sym ((λ i. chosen (ltb w all_tops && below i)) ∙ ap chosen (and-false (ltb w all_tops)))
 
-  length-raised : length (raised t w n) ≡ length t
-  length-raised = same (ltb w allTops && ltb (getD t w 0) n)
+  length_raised : length (raised t w n) ≡ length t
+  length_raised = same (ltb w all_tops && ltb (get_or t w 0) n)
     where
       same : (b : Bool) → length (chosen b) ≡ length t
       same true = length-set t w n
       same false = refl
 
-pub uncommitted-leaves : (p : Cell → Bool) (t : List ℕ) (c : Cell) → c .commit ≡ 0 → t ≡ raisedBy p t c
-uncommitted-leaves p t c e = by-test (p c)
+pub uncommitted_leaves : (p : Cell → Bool) (t : List ℕ) (c : Cell) → c.commit ≡ 0 → t ≡ raised_by p t c
+uncommitted_leaves p t c e = by-test (p c)
   where
-    by-test : (b : Bool) → t ≡ cond b (raised t (c .word) (c .commit)) t
-    by-test true = raise-none t (c .word) (c .commit) e
+    by-test : (b : Bool) → t ≡ cond b (raised t c.word c.commit) t
+    by-test true = raise_none t c.word c.commit e
     by-test false = refl
 
 module _ (p : Cell → Bool) (t : List ℕ) (ws : List ℕ) (i : ℕ) where
-  tops-turn : i < length ws / 4
-      → topsFrom p t (drop i (cellsOf ws)) ≡ topsFrom p (raisedBy p t (getD (cellsOf ws) i noCell)) (drop (i + 1) (cellsOf ws))
-  unfolding topsFrom
-  tops-turn h = ap (topsFrom p t) (cells-next ws i h)
+  tops_turn : i < length ws / 4
+      → tops_from p t (drop i (cells_of ws)) ≡ tops_from p (raised_by p t (get_or (cells_of ws) i no_cell)) (drop (i + 1) (cells_of ws))
+  unfolding tops_from
+  tops_turn h = ap (tops_from p t) (cells_next ws i h)
 
   -- a turn whose cell is c, and which leaves the table r
-  pub tops-next : i < length ws / 4 → (c : Cell) → c ≡ getD (cellsOf ws) i noCell → (r : List ℕ) → r ≡ raisedBy p t c
-      → topsFrom p t (drop i (cellsOf ws)) ≡ topsFrom p r (drop (i + 1) (cellsOf ws))
-  tops-next h c e r q =
-      tops-turn h
-      ∙ ap (λ (x : Cell). topsFrom p (raisedBy p t x) (drop (i + 1) (cellsOf ws))) (sym e)
-      ∙ ap (λ (u : List ℕ). topsFrom p u (drop (i + 1) (cellsOf ws))) (sym q)
+  pub tops_next : i < length ws / 4 → (c : Cell) → c ≡ get_or (cells_of ws) i no_cell → (r : List ℕ) → r ≡ raised_by p t c
+      → tops_from p t (drop i (cells_of ws)) ≡ tops_from p r (drop (i + 1) (cells_of ws))
+  tops_next h c e r q =
+      tops_turn h
+      ∙ ap (λ (x : Cell). tops_from p (raised_by p t x) (drop (i + 1) (cells_of ws))) (sym e)
+      ∙ ap (λ (u : List ℕ). tops_from p u (drop (i + 1) (cells_of ws))) (sym q)
 
-  pub tops-end : length ws / 4 ≤ i → topsFrom p t (drop i (cellsOf ws)) ≡ t
-  unfolding topsFrom
-  tops-end h = ap (topsFrom p t) (cells-end ws i h)
+  pub tops_end : length ws / 4 ≤ i → tops_from p t (drop i (cells_of ws)) ≡ t
+  unfolding tops_from
+  tops_end h = ap (tops_from p t) (cells_end ws i h)
 
 -- WHAT A TABLE TELLS
 
 -- the answer by the table where the first word is in it, otherwise the other
 module _ (w : ℕ) (x y : Bool) where
-  pub in-table : w < allTops → x ≡ cond (ltb w allTops) x y
-  in-table h = sym (ap (λ (b : Bool). cond b x y) (lt-ltb w allTops h))
+  pub in_table : w < all_tops → x ≡ cond (ltb w all_tops) x y
+  in_table h = sym (ap (λ (b : Bool). cond b x y) (lt-ltb w all_tops h))
 
-  pub past-table : allTops ≤ w → y ≡ cond (ltb w allTops) x y
-  past-table h = sym (ap (λ (b : Bool). cond b x y) (le-ltb w allTops h))
+  pub past_table : all_tops ≤ w → y ≡ cond (ltb w all_tops) x y
+  past_table h = sym (ap (λ (b : Bool). cond b x y) (le-ltb w all_tops h))
 
 -- of two numbers, the higher is above n if one of them is
-higher-second : (n a b : ℕ) (t : Bool) → ltb n a ≡ t → a < b → ltb n b ≡ (t || ltb n b)
-higher-second n a b true e h = lt-ltb n b (omega (arith, ltb-true n a e))
-higher-second n a b false e h = refl
+higher_second : (n a b : ℕ) (t : Bool) → ltb n a ≡ t → a < b → ltb n b ≡ (t || ltb n b)
+higher_second n a b true e h = lt-ltb n b (omega (arith, ltb-true n a e))
+higher_second n a b false e h = refl
 
-higher-first : (n a b : ℕ) (t : Bool) → ltb n a ≡ t → b ≤ a → t ≡ (t || ltb n b)
-higher-first n a b true e h = refl
-higher-first n a b false e h = sym (le-ltb n b (omega (arith, ltb-false n a e)))
+higher_first : (n a b : ℕ) (t : Bool) → ltb n a ≡ t → b ≤ a → t ≡ (t || ltb n b)
+higher_first n a b true e h = refl
+higher_first n a b false e h = sym (le-ltb n b (omega (arith, ltb-false n a e)))
 
 -- after one more number a word's is above n if it was, or if the number is the word's and above n
-module _ (t : List ℕ) (w n : ℕ) (g : w < allTops) (h : w < length t) (v m : ℕ) where
+module _ (t : List ℕ) (w n : ℕ) (g : w < all_tops) (h : w < length t) (v m : ℕ) where
   abbrev at : Bool → ℕ
-  at b = getD (cond b (set t v m) t) w 0
+  at b = get_or (cond b (set t v m) t) w 0
 
-  raised-here : (b : Bool) → ltb (getD t v 0) m ≡ b → v ≡ w → ltb n (at b) ≡ (ltb n (getD t w 0) || ltb n m)
-  raised-here true e q =
-      let stored : at true ≡ m = ap (λ (k : ℕ). getD (set t k m) w 0) q ∙ getD-set-same t w m 0 h in
-      let below : getD t w 0 < m = ltb-true (getD t w 0) m (sym (ap (λ (k : ℕ). ltb (getD t k 0) m) q) ∙ e) in
-      ap (ltb n) stored ∙ higher-second n (getD t w 0) m (ltb n (getD t w 0)) refl below
-  raised-here false e q =
-      let above : m ≤ getD t w 0 = ltb-false (getD t w 0) m (sym (ap (λ (k : ℕ). ltb (getD t k 0) m) q) ∙ e) in
-      higher-first n (getD t w 0) m (ltb n (getD t w 0)) refl above
+  raised_here : (b : Bool) → ltb (get_or t v 0) m ≡ b → v ≡ w → ltb n (at b) ≡ (ltb n (get_or t w 0) || ltb n m)
+  raised_here true e q =
+      let stored : at true ≡ m = ap (λ (k : ℕ). get_or (set t k m) w 0) q ∙ get_or-set_same t w m 0 h in
+      let below : get_or t w 0 < m = ltb-true (get_or t w 0) m (sym (ap (λ (k : ℕ). ltb (get_or t k 0) m) q) ∙ e) in
+      ap (ltb n) stored ∙ higher_second n (get_or t w 0) m (ltb n (get_or t w 0)) refl below
+  raised_here false e q =
+      let above : m ≤ get_or t w 0 = ltb-false (get_or t w 0) m (sym (ap (λ (k : ℕ). ltb (get_or t k 0) m) q) ∙ e) in
+      higher_first n (get_or t w 0) m (ltb n (get_or t w 0)) refl above
 
-  raised-other : (b : Bool) → (v ≡ w → ⊥) → ltb n (at b) ≡ ltb n (getD t w 0)
-  raised-other true q = ap (ltb n) (getD-set-other t v w m 0 (λ e. q (sym e)))
-  raised-other false q = refl
+  raised_other : (b : Bool) → (v ≡ w → ⊥) → ltb n (at b) ≡ ltb n (get_or t w 0)
+  raised_other true q = ap (ltb n) (get_or-set_other t v w m 0 (λ e. q (sym e)))
+  raised_other false q = refl
 
-  raised-at : (b : Bool) → eqb v w ≡ b → ltb n (getD (raised t v m) w 0) ≡ (ltb n (getD t w 0) || (b && ltb n m))
-  raised-at true e =
+  raised_at : (b : Bool) → eqb v w ≡ b → ltb n (get_or (raised t v m) w 0) ≡ (ltb n (get_or t w 0) || (b && ltb n m))
+  raised_at true e =
       let q = eqb-true v w e in
-      let inside : ltb v allTops ≡ true = lt-ltb v allTops (omega arith) in
-      ap (λ (b : Bool). ltb n (at (b && ltb (getD t v 0) m))) inside ∙ raised-here (ltb (getD t v 0) m) refl q
-  raised-at false e =
-      raised-other (ltb v allTops && ltb (getD t v 0) m) (eqb-false v w e) ∙ sym (or-false (ltb n (getD t w 0)))
+      let inside : ltb v all_tops ≡ true = lt-ltb v all_tops (omega arith) in
+      ap (λ (b : Bool). ltb n (at (b && ltb (get_or t v 0) m))) inside ∙ raised_here (ltb (get_or t v 0) m) refl q
+  raised_at false e =
+      raised_other (ltb v all_tops && ltb (get_or t v 0) m) (eqb-false v w e) ∙ sym (or-false (ltb n (get_or t w 0)))
 
 -- a cell of that first word that passes the test, with a number above n
 abbrev over : (Cell → Bool) → ℕ → ℕ → Cell → Bool
-over p w n d = p d && (eqb (d .word) w && ltb n (d .commit))
+over p w n d = p d && (eqb d.word w && ltb n d.commit)
 
-module _ (p : Cell → Bool) (w n : ℕ) (g : w < allTops) where
-  by-at : (t : List ℕ) (c : Cell) → w < length t → (b : Bool)
-      → ltb n (getD (cond b (raised t (c .word) (c .commit)) t) w 0)
-      ≡ (ltb n (getD t w 0) || (b && (eqb (c .word) w && ltb n (c .commit))))
-  by-at t c h true = raised-at t w n g h (c .word) (c .commit) (eqb (c .word) w) refl
-  by-at t c h false = sym (or-false (ltb n (getD t w 0)))
+module _ (p : Cell → Bool) (w n : ℕ) (g : w < all_tops) where
+  by_at : (t : List ℕ) (c : Cell) → w < length t → (b : Bool)
+      → ltb n (get_or (cond b (raised t c.word c.commit) t) w 0)
+      ≡ (ltb n (get_or t w 0) || (b && (eqb c.word w && ltb n c.commit)))
+  by_at t c h true = raised_at t w n g h c.word c.commit (eqb c.word w) refl
+  by_at t c h false = sym (or-false (ltb n (get_or t w 0)))
 
-  length-by : (t : List ℕ) (c : Cell) (b : Bool) → length (cond b (raised t (c .word) (c .commit)) t) ≡ length t
-  length-by t c true = length-raised t (c .word) (c .commit)
-  length-by t c false = refl
+  length_by : (t : List ℕ) (c : Cell) (b : Bool) → length (cond b (raised t c.word c.commit) t) ≡ length t
+  length_by t c true = length_raised t c.word c.commit
+  length_by t c false = refl
 
-  tops-at : (cs : List Cell) (t : List ℕ) → w < length t
-      → ltb n (getD (topsFrom p t cs) w 0) ≡ (ltb n (getD t w 0) || hasCell (over p w n) cs)
-  unfolding topsFrom hasCell
-  tops-at [] t h = sym (or-false (ltb n (getD t w 0)))
-  tops-at (c ∷ cs) t h =
-      let same = length-by t c (p c) in
-      tops-at cs (raisedBy p t c) (omega arith)
-      ∙ ap (λ (b : Bool). b || hasCell (over p w n) cs) (by-at t c h (p c))
-      ∙ or-assoc (ltb n (getD t w 0)) (over p w n c) (hasCell (over p w n) cs)
+  tops_at : (cs : List Cell) (t : List ℕ) → w < length t
+      → ltb n (get_or (tops_from p t cs) w 0) ≡ (ltb n (get_or t w 0) || has_cell (over p w n) cs)
+  unfolding tops_from has_cell
+  tops_at [] t h = sym (or-false (ltb n (get_or t w 0)))
+  tops_at (c ∷ cs) t h =
+      let same = length_by t c (p c) in
+      tops_at cs (raised_by p t c) (omega arith)
+      ∙ ap (λ (b : Bool). b || has_cell (over p w n) cs) (by_at t c h (p c))
+      ∙ or_assoc (ltb n (get_or t w 0)) (over p w n c) (has_cell (over p w n) cs)
 
   -- the whole table: a word's number is above n if one of the word's cells is
-  tops-tell : (cs : List Cell) → ltb n (getD (topsOf p cs) w 0) ≡ hasCell (over p w n) cs
-  unfolding topsOf
-  tops-tell cs =
-      let none : ltb n (getD (replicate allTops 0) w 0) ≡ false =
-      ap (ltb n) (getD-replicate allTops w 0 0 g) ∙ le-ltb n 0 (omega arith) in
-      tops-at cs (replicate allTops 0) (omega (arith, length-replicate {A = ℕ} allTops 0))
-      ∙ ap (λ (b : Bool). b || hasCell (over p w n) cs) none
+  tops_tell : (cs : List Cell) → ltb n (get_or (tops_of p cs) w 0) ≡ has_cell (over p w n) cs
+  unfolding tops_of
+  tops_tell cs =
+      let none : ltb n (get_or (replicate all_tops 0) w 0) ≡ false =
+      ap (ltb n) (get_or-replicate all_tops w 0 0 g) ∙ le-ltb n 0 (omega arith) in
+      tops_at cs (replicate all_tops 0) (omega (arith, length-replicate {A = ℕ} all_tops 0))
+      ∙ ap (λ (b : Bool). b || has_cell (over p w n) cs) none
 
 -- what is higher than a nonempty cell of its first word is a committed cell of its key
 module _ (c d : Cell) (e : empty c ≡ false) where
-  by-word : (a b : Bool) → eqb (d .word) (c .word) ≡ a → ltb (c .commit) (d .commit) ≡ b → (a && b) ≡ (a && committed d && b)
-  by-word false b p q = refl
-  by-word true false p q = sym (and-false (committed d))
-  by-word true true p q =
-      let same = eqb-true (d .word) (c .word) p in
-      let filled : empty d ≡ false = ne-eqb (d .word) 0 (λ z. eqb-false (c .word) 0 e (sym same ∙ z)) in
-      let high : ltb 0 (d .commit) ≡ true = lt-ltb 0 (d .commit) (omega (arith, ltb-true (c .commit) (d .commit) q)) in
+  by_word : (a b : Bool) → eqb d.word c.word ≡ a → ltb c.commit d.commit ≡ b → (a && b) ≡ (a && committed d && b)
+  by_word false b p q = refl
+  by_word true false p q = sym (and-false (committed d))
+  by_word true true p q =
+      let same = eqb-true d.word c.word p in
+      let filled : empty d ≡ false = ne_eqb d.word 0 (λ z. eqb-false c.word 0 e (sym same ∙ z)) in
+      let high : ltb 0 d.commit ≡ true = lt-ltb 0 d.commit (omega (arith, ltb-true c.commit d.commit q)) in
       sym (λ i. not (filled i) && high i && true)
 
-  over-newer : over anyCell (c .word) (c .commit) d ≡ newer c d
-  over-newer = by-word (eqb (d .word) (c .word)) (ltb (c .commit) (d .commit)) refl refl
+  over_newer : over any_cell c.word c.commit d ≡ newer c d
+  over_newer = by_word (eqb d.word c.word) (ltb c.commit d.commit) refl refl
 
-  over-between : (r : Reader) → over (upTo r) (c .word) (c .commit) d ≡ between c r d
-  over-between r =
-      and-comm (upTo r d) (eqb (d .word) (c .word) && ltb (c .commit) (d .commit))
-      ∙ ap (λ (b : Bool). b && upTo r d) over-newer
+  over_between : (r : Reader) → over (up_to r) c.word c.commit d ≡ between c r d
+  over_between r =
+      and_comm (up_to r d) (eqb d.word c.word && ltb c.commit d.commit)
+      ∙ ap (λ (b : Bool). b && up_to r d) over_newer
 
 -- the promise: the tables of a board tell of every nonempty cell whether it is outdated, and whether a view keeps it
 module _ (cs : List Cell) (c : Cell) (e : empty c ≡ false) where
-  outdated-is : outdatedBy (topsOf anyCell cs) cs c ≡ hasCell (newer c) cs
-  unfolding outdatedBy
-  outdated-is = by-size (ltb (c .word) allTops) refl
+  outdated_is : outdated_by (tops_of any_cell cs) cs c ≡ has_cell (newer c) cs
+  unfolding outdated_by
+  outdated_is = by_size (ltb c.word all_tops) refl
     where
-      by-size : (b : Bool) → ltb (c .word) allTops ≡ b
-          → cond b (ltb (c .commit) (getD (topsOf anyCell cs) (c .word) 0)) (hasCell (newer c) cs) ≡ hasCell (newer c) cs
-      by-size false p = refl
-      by-size true p =
-          tops-tell anyCell (c .word) (c .commit) (ltb-true (c .word) allTops p) cs
-          ∙ has-same (over anyCell (c .word) (c .commit)) (newer c) (λ d. over-newer c d e) cs
+      by_size : (b : Bool) → ltb c.word all_tops ≡ b
+          → cond b (ltb c.commit (get_or (tops_of any_cell cs) c.word 0)) (has_cell (newer c) cs) ≡ has_cell (newer c) cs
+      by_size false p = refl
+      by_size true p =
+          tops_tell any_cell c.word c.commit (ltb-true c.word all_tops p) cs
+          ∙ has_same (over any_cell c.word c.commit) (newer c) (λ d. over_newer c d e) cs
 
   module _ (r : Reader) where
-    passed-is : ltb (c .word) allTops ≡ true
-        → ltb (c .commit) (getD (topsOf (upTo r) cs) (c .word) 0) ≡ hasCell (between c r) cs
-    passed-is p =
-        tops-tell (upTo r) (c .word) (c .commit) (ltb-true (c .word) allTops p) cs
-        ∙ has-same (over (upTo r) (c .word) (c .commit)) (between c r) (λ d. over-between c d e r) cs
+    passed_is : ltb c.word all_tops ≡ true
+        → ltb c.commit (get_or (tops_of (up_to r) cs) c.word 0) ≡ has_cell (between c r) cs
+    passed_is p =
+        tops_tell (up_to r) c.word c.commit (ltb-true c.word all_tops p) cs
+        ∙ has_same (over (up_to r) c.word c.commit) (between c r) (λ d. over_between c d e r) cs
 
-    surpassed-is : surpassedIn (topsOf (upTo r) cs) c ≡ (ltb (c .word) allTops && hasCell (between c r) cs)
-    unfolding surpassedIn
-    surpassed-is = by-size (ltb (c .word) allTops) refl
+    surpassed-is : surpassed_in (tops_of (up_to r) cs) c ≡ (ltb c.word all_tops && has_cell (between c r) cs)
+    unfolding surpassed_in
+    surpassed-is = by_size (ltb c.word all_tops) refl
       where
-        by-size : (b : Bool) → ltb (c .word) allTops ≡ b
-            → cond b (ltb (c .commit) (getD (topsOf (upTo r) cs) (c .word) 0)) false ≡ (b && hasCell (between c r) cs)
-        by-size false p = refl
-        by-size true p = passed-is p
+        by_size : (b : Bool) → ltb c.word all_tops ≡ b
+            → cond b (ltb c.commit (get_or (tops_of (up_to r) cs) c.word 0)) false ≡ (b && has_cell (between c r) cs)
+        by_size false p = refl
+        by_size true p = passed_is p
 
-    held-is : heldIn (topsOf (upTo r) cs) c r ≡ (ltb (c .word) allTops && keeps cs c r)
-    unfolding heldIn
-    held-is = by-size (ltb (c .word) allTops) refl
+    held-is : held_in (tops_of (up_to r) cs) c r ≡ (ltb c.word all_tops && keeps cs c r)
+    unfolding held_in
+    held-is = by_size (ltb c.word all_tops) refl
       where
-        by-size : (b : Bool) → ltb (c .word) allTops ≡ b
-            → cond b (leb (c .commit) (r .view) && not (ltb (c .commit) (getD (topsOf (upTo r) cs) (c .word) 0))) false
+        by_size : (b : Bool) → ltb c.word all_tops ≡ b
+            → cond b (leb c.commit r.view && not (ltb c.commit (get_or (tops_of (up_to r) cs) c.word 0))) false
             ≡ (b && keeps cs c r)
-        by-size false p = refl
-        by-size true p = ap (λ (b : Bool). leb (c .commit) (r .view) && not b) (passed-is p)
+        by_size false p = refl
+        by_size true p = ap (λ (b : Bool). leb c.commit r.view && not b) (passed_is p)
 
-  pub tables-tell : TablesTell cs c
-  tables-tell = record { outdated = outdated-is; surpassed = surpassed-is; held = held-is }
+  pub tables_tell : TablesTell cs c
+  tables_tell = record { outdated = outdated_is; surpassed = surpassed-is; held = held-is }

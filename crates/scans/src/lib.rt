@@ -1,23 +1,22 @@
 // Scans of lent cells: what a read, an update and the search for a spent cell ask of them, and what commit and rollback write in them.
-use cells::Cell;
-use cells::Reader;
-ghost use mathlib.Core.Path.{_≡_};
-ghost use mathlib.Core.List.{map};
-ghost use Prim.Native.Nat.{_+_, _<_};
-ghost use lib.ListN.{length};
-ghost use Rattle·cells.specs.Cells.{cellsOf, withCells, countOf};
-ghost use Rattle·cells.specs.Rules.{partIs, newer, stamped, wiped, ended};
-ghost use Rattle·scans·specs.specs.Rules.{foreignWith, hasCell, keeps, lookOf};
-ghost use Rattle·scans·specs.specs.Search.{fourHave, NextAt, lowestOf, noLook, lookTurn};
-ghost use Rattle·scans·specs.specs.Tables.{raised, topsOf, anyCell, upTo, outdatedBy, surpassedIn, heldIn};
+ghost use Rattle.std.specs.Prelude.{◌≡◌, map, ◌+◌, ◌<◌, length};
+ghost use Rattle.cells.specs.Cells.{cells_of, with_cells, count_of};
+ghost use Rattle.cells.specs.Rules.{part_is, newer, stamped, wiped, ended};
+ghost use Rattle.scans.specs.Rules.{foreign_with, has_cell, keeps, look_of};
+ghost use Rattle.scans.specs.Search.{four_have, NextAt, lowest_of, no_look, look_turn};
+ghost use Rattle.scans.specs.Tables.{raised, tops_of, any_cell, up_to, outdated_by, surpassed_in, held_in};
+
+use cells::{Cell, Reader};
 
 // Where a scan found what it looked for: a cell's number, or nowhere.
+#[derive(Drop)]
 pub enum Found {
     At(usize),
     Nothing,
 }
 
 // What a read and an update ask of a key's cells.
+#[derive(Drop)]
 pub struct Looked {
     pub own: Found,
     pub foreign: bool,
@@ -27,7 +26,7 @@ pub struct Looked {
 
 // Whether a foreign cell of the key has the other number
 pub fn foreign_with(cells: &[u32], key: u32, number: u32, other: u32) -> bool
-    ensures { λ r. ⌜ r ≡ foreignWith key number other (cellsOf (now (cells .entry))) ⌝ }
+    ensures { result ≡ foreign_with key number other (cells_of cells.now) }
 {
     let n = cells::count(cells);
     for i in 0..n {
@@ -41,7 +40,7 @@ pub fn foreign_with(cells: &[u32], key: u32, number: u32, other: u32) -> bool
 
 // Whether the cell's key has a committed cell with a number above the cell's
 pub fn outdated(cells: &[u32], c: Cell) -> bool
-    ensures { λ r. ⌜ r ≡ hasCell (newer c) (cellsOf (now (cells .entry))) ⌝ }
+    ensures { result ≡ has_cell (newer c) (cells_of cells.now) }
 {
     let n = cells::count(cells);
     for i in 0..n {
@@ -55,7 +54,7 @@ pub fn outdated(cells: &[u32], c: Cell) -> bool
 
 // Whether a reader keeps the cell: its view is at least the cell's number, and sees no newer one
 pub fn kept(cells: &[u32], c: Cell, reader: Reader) -> bool
-    ensures { λ r. ⌜ r ≡ keeps (cellsOf (now (cells .entry))) c reader ⌝ }
+    ensures { result ≡ keeps (cells_of cells.now) c reader }
 {
     if reader.view < c.commit {
         return false;
@@ -74,21 +73,21 @@ pub fn kept(cells: &[u32], c: Cell, reader: Reader) -> bool
 
 // Every own cell takes the commit number
 pub fn stamp(cells: &mut [u32], number: u32, commit: u32)
-    ensures { λ r. ⌜ now (cells .exit) ≡ withCells (now (cells .entry)) (map (stamped number commit) (cellsOf (now (cells .entry)))) ⌝ }
+    ensures { cells.new ≡ with_cells cells.old (map (stamped number commit) (cells_of cells.old)) }
 {
     end_own(cells, number, true, commit);
 }
 
 // Every own cell becomes four zeros
 pub fn wipe(cells: &mut [u32], number: u32)
-    ensures { λ r. ⌜ now (cells .exit) ≡ withCells (now (cells .entry)) (map (wiped number) (cellsOf (now (cells .entry)))) ⌝ }
+    ensures { cells.new ≡ with_cells cells.old (map (wiped number) (cells_of cells.old)) }
 {
     end_own(cells, number, false, 0);
 }
 
 // Every own cell takes the commit number, or becomes four zeros
 fn end_own(cells: &mut [u32], number: u32, kept: bool, commit: u32)
-    ensures { λ r. ⌜ now (cells .exit) ≡ withCells (now (cells .entry)) (map (ended number kept commit) (cellsOf (now (cells .entry)))) ⌝ }
+    ensures { cells.new ≡ with_cells cells.old (map (ended number kept commit) (cells_of cells.old)) }
 {
     let n = cells::count(cells);
     let mut at = next(cells, 0, true, number);
@@ -101,8 +100,8 @@ fn end_own(cells: &mut [u32], number: u32, kept: bool, commit: u32)
 
 // Whether one of four cells from i on has this word for that part
 fn four_have(cells: &[u32], i: usize, number: bool, word: u32) -> bool
-    requires { ⌜ i + 3 < countOf (length (now cells)) ⌝ }
-    ensures { λ r. ⌜ r ≡ fourHave (partIs number word) i (cellsOf (now (cells .entry))) ⌝ }
+    requires { i + 3 < count_of (length cells.now) }
+    ensures { result ≡ four_have (part_is number word) i (cells_of cells.now) }
 {
     (cells::cell_at(cells, i).part(number) == word)
         | (cells::cell_at(cells, i + 1).part(number) == word)
@@ -112,7 +111,7 @@ fn four_have(cells: &[u32], i: usize, number: bool, word: u32) -> bool
 
 // The first cell from `from` on that has this word for that part, or the end: eight are looked at in one go
 fn next(cells: &[u32], from: usize, number: bool, word: u32) -> usize
-    ensures { λ r. ⌜ NextAt (partIs number word) from (cellsOf (now (cells .entry))) r ⌝ }
+    ensures { NextAt (part_is number word) from (cells_of cells.now) result }
 {
     let n = cells::count(cells);
     let mut i = from;
@@ -134,7 +133,7 @@ fn next(cells: &[u32], from: usize, number: bool, word: u32) -> usize
 impl Found {
     // The lowest so far, after cell i that passes the test or not
     fn lowest(self, passes: bool, i: usize) -> Found
-        ensures { λ r. ⌜ r ≡ lowestOf self passes i ⌝ }
+        ensures { result ≡ lowest_of self passes i }
     {
         match self {
             Found::At(j) => Found::At(j),
@@ -146,7 +145,7 @@ impl Found {
 impl Looked {
     // Nothing seen yet
     fn none() -> Looked
-        ensures { λ r. ⌜ r ≡ noLook ⌝ }
+        ensures { result ≡ no_look }
     {
         let own = Found::Nothing;
         let newest = Cell::none();
@@ -160,7 +159,7 @@ impl Looked {
 
     // What is known after one more cell of the key
     fn with(self, i: usize, c: Cell, reader: Reader) -> Looked
-        ensures { λ r. ⌜ r ≡ lookTurn reader i c self ⌝ }
+        ensures { result ≡ look_turn reader i c self }
     {
         let so_far = self.own;
         let own = so_far.lowest(c.own(reader.number), i);
@@ -176,7 +175,7 @@ impl Looked {
 
 // All that a read or an update asks of the key's cells, in one pass
 pub fn look(cells: &[u32], key: u32, reader: Reader) -> Looked
-    ensures { λ r. ⌜ r ≡ lookOf key reader (cellsOf (now (cells .entry))) ⌝ }
+    ensures { result ≡ look_of key reader (cells_of cells.now) }
 {
     let mut seen = Looked::none();
     if key == u32::MAX {
@@ -196,6 +195,7 @@ pub fn look(cells: &[u32], key: u32, reader: Reader) -> Looked
 pub const TOPS: usize = cells::KEYS as usize + 1;
 
 // For each first word below TOPS the greatest commit number of its cells, of all of them and of those that a reader sees
+#[derive(Drop)]
 pub struct Tops {
     pub all: [u32; TOPS],
     pub seen: [u32; TOPS],
@@ -203,7 +203,7 @@ pub struct Tops {
 
 // The number of a first word is raised to a higher one
 fn raise(t: &mut [u32; TOPS], w: usize, n: u32)
-    ensures { λ r. ⌜ now (t .exit) ≡ raised (now (t .entry)) w n ⌝ }
+    ensures { t.new ≡ raised t.old w n }
 {
     if w < TOPS {
         if t[w] < n {
@@ -214,7 +214,7 @@ fn raise(t: &mut [u32; TOPS], w: usize, n: u32)
 
 // Both tables for every key at once, in one pass
 pub fn tops_of(cells: &[u32], reader: Reader) -> Tops
-    ensures { λ r. ⌜ r ≡ record { all = topsOf anyCell (cellsOf (now (cells .entry))); seen = topsOf (upTo reader) (cellsOf (now (cells .entry))) } ⌝ }
+    ensures { result ≡ record { all = tops_of any_cell (cells_of cells.now); seen = tops_of (up_to reader) (cells_of cells.now) } }
 {
     let n = cells::count(cells);
     let mut all = [0u32; TOPS];
@@ -240,7 +240,7 @@ pub fn tops_of(cells: &[u32], reader: Reader) -> Tops
 
 // Whether the cell's key has a committed cell with a number above the cell's, by the table where the first word is in it
 pub fn outdated_by(all: &[u32; TOPS], cells: &[u32], c: Cell) -> bool
-    ensures { λ r. ⌜ r ≡ outdatedBy (now (all .entry)) (cellsOf (now (cells .entry))) c ⌝ }
+    ensures { result ≡ outdated_by all.now (cells_of cells.now) c }
 {
     let w = c.word as usize;
     if w < TOPS {
@@ -251,7 +251,7 @@ pub fn outdated_by(all: &[u32; TOPS], cells: &[u32], c: Cell) -> bool
 
 // Whether the table of a reader knows of a newer cell that the reader sees
 pub fn surpassed(seen: &[u32; TOPS], c: Cell) -> bool
-    ensures { λ r. ⌜ r ≡ surpassedIn (now (seen .entry)) c ⌝ }
+    ensures { result ≡ surpassed_in seen.now c }
 {
     let w = c.word as usize;
     if w < TOPS {
@@ -262,7 +262,7 @@ pub fn surpassed(seen: &[u32; TOPS], c: Cell) -> bool
 
 // Whether the table of a reader knows that the reader keeps the cell
 pub fn held_by(seen: &[u32; TOPS], c: Cell, reader: Reader) -> bool
-    ensures { λ r. ⌜ r ≡ heldIn (now (seen .entry)) c reader ⌝ }
+    ensures { result ≡ held_in seen.now c reader }
 {
     let w = c.word as usize;
     if w < TOPS {

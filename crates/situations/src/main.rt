@@ -1,16 +1,15 @@
 // The situations on the road, run on real boards: 1 to 10 again, and 11. Each call is made twice: as a value on one board, and on another
 // as bytes, as a console sends it. A line for each row: what was called, and what came back.
+ghost use Rattle.std.specs.Prelude.{◌≤◌};
+
 use cells::Cell;
-use records::Answer;
-use records::AnswerRead;
-use records::Call;
-use steps::Answered;
-use steps::Board;
-ghost use Prim.Native.Nat.{_≤_};
+use records::{Answer, AnswerRead, Call};
+use steps::{Answered, Board};
 
 // A row of the table: what is done, three numbers for it, and what is to come back, number and value. A CASE begins a situation on a
 // fresh board of so many words, GOES_ON one on the same board; a CELL names a cell and the
 // four words that it is to hold. A table has twelve rows, the last of them END.
+#[derive(Drop)]
 struct Row(u32, u32, u32, u32, u32, u32);
 
 const CASE: u32 = 0;
@@ -382,6 +381,7 @@ const CASE_11_i: [Row; 12] = [
 
 // How far the run is: the record that calls go to as values and the one that they go to as bytes, how many words are lent to each, the
 // situation and its step, and how many checks there were and were wrong.
+#[derive(Drop)]
 struct Run {
     board: Board,
     served: Board,
@@ -519,6 +519,7 @@ fn as_bytes(board: Board, words: &mut [u32], length: usize, call: Call) -> Sent 
 }
 
 // What came back for a call that went as bytes: the answer, whether its record has the call's place, and the new record.
+#[derive(Drop)]
 struct Sent {
     board: Board,
     answer: Answer,
@@ -722,7 +723,7 @@ fn call_of(row: Row) -> Call {
 
 // The lesser of two numbers.
 fn least(a: usize, b: usize) -> usize
-    ensures { λ r. ⌜ (r ≤ a) × (r ≤ b) ⌝ }
+    ensures { (result ≤ a) × (result ≤ b) }
 {
     if a <= b {
         return a;

@@ -1,59 +1,59 @@
 -- In shape, in facts.
---     shape-of, in-shape     the facts of a board that is in shape, and the test from them
+--     shape_of, in_shape_lem     the facts of a board that is in shape, and the test from them
 -- Assumes nothing.
-use Prim.Native.Nat.{ℕ, _+_, _≤_}
-use mathlib.Core.Path.{_≡_}
-use mathlib.Core.Bool.{Bool, true, _&&_}
+use Prim.Native.Nat.{ℕ, ◌+◌, ◌≤◌}
+use mathlib.Core.Path.{◌≡◌}
+use mathlib.Core.Bool.{Bool, true, ◌&&◌}
 use borrow.Author.Tests.{leb-true, le-leb}
 use lib.Dec.{leb}
 use lib.ListN.{length}
-use Rattle·laws.proofs.Tests.{and-left, and-right, and-both}
-use Rattle·cells.specs.Cells.{wholeCells}
-use Rattle·places.specs.Shape.{held, distinct, counted, each}
-use Rattle·steps·specs.specs.declared.Board.{Board}
-use Rattle·steps·specs.specs.Record.{mostCells}
-use Rattle·checks.specs.Check.{mostStarts}
-use Rattle·steps·specs.specs.Shape.{inShape}
+use Rattle.laws.proofs.Tests.{and_left, and_right, and_both}
+use Rattle.cells.specs.Cells.{whole_cells}
+use Rattle.places.specs.Shape.{held, distinct, counted, each}
+use Rattle.steps.specs.declared.Board.{Board}
+use Rattle.steps.specs.Record.{most_cells}
+use Rattle.checks.specs.Check.{most_starts}
+use Rattle.steps.specs.Shape.{in_shape}
 
 pub record Shape (b : Board) (words : ℕ) : Type 0 where
-  pub whole : wholeCells mostCells words ≡ true
-  pub few : b .starts ≤ mostStarts
-  pub room : b .commits + length (held (b .places)) ≤ b .starts
-  pub apart : distinct (held (b .places)) ≡ true
-  pub within : each (counted (b .starts) (b .commits)) (held (b .places)) ≡ true
+  pub whole : whole_cells most_cells words ≡ true
+  pub few : b.starts ≤ most_starts
+  pub room : b.commits + length (held b.places) ≤ b.starts
+  pub apart : distinct (held b.places) ≡ true
+  pub within : each (counted b.starts b.commits) (held b.places) ≡ true
 
 module _ (b : Board) (words : ℕ) where
   abbrev t₁ : Bool
-  t₁ = wholeCells mostCells words
+  t₁ = whole_cells most_cells words
 
   abbrev t₂ : Bool
-  t₂ = leb (b .starts) mostStarts
+  t₂ = leb b.starts most_starts
 
   abbrev t₃ : Bool
-  t₃ = leb (b .commits + length (held (b .places))) (b .starts)
+  t₃ = leb (b.commits + length (held b.places)) b.starts
 
   abbrev t₄ : Bool
-  t₄ = distinct (held (b .places))
+  t₄ = distinct (held b.places)
 
   abbrev t₅ : Bool
-  t₅ = each (counted (b .starts) (b .commits)) (held (b .places))
+  t₅ = each (counted b.starts b.commits) (held b.places)
 
-  pub shape-of : inShape b words ≡ true → Shape b words
-  unfolding inShape
-  shape-of e =
-      let e₄ = and-left (t₁ && t₂ && t₃ && t₄) t₅ e in
-      let e₃ = and-left (t₁ && t₂ && t₃) t₄ e₄ in
-      let e₂ = and-left (t₁ && t₂) t₃ e₃ in
+  pub shape_of : in_shape b words ≡ true → Shape b words
+  unfolding in_shape
+  shape_of e =
+      let e₄ = and_left (t₁ && t₂ && t₃ && t₄) t₅ e in
+      let e₃ = and_left (t₁ && t₂ && t₃) t₄ e₄ in
+      let e₂ = and_left (t₁ && t₂) t₃ e₃ in
       record {
-        whole = and-left t₁ t₂ e₂;
-        few = leb-true _ _ (and-right t₁ t₂ e₂);
-        room = leb-true _ _ (and-right (t₁ && t₂) t₃ e₃);
-        apart = and-right (t₁ && t₂ && t₃) t₄ e₄;
-        within = and-right (t₁ && t₂ && t₃ && t₄) t₅ e;
+        whole = and_left t₁ t₂ e₂;
+        few = leb-true _ _ (and_right t₁ t₂ e₂);
+        room = leb-true _ _ (and_right (t₁ && t₂) t₃ e₃);
+        apart = and_right (t₁ && t₂ && t₃) t₄ e₄;
+        within = and_right (t₁ && t₂ && t₃ && t₄) t₅ e;
       }
 
-  pub in-shape : Shape b words → inShape b words ≡ true
-  unfolding inShape
-  in-shape s =
-      let e₂ = and-both (s .whole) (le-leb _ _ (s .few)) in
-      and-both (and-both (and-both e₂ (le-leb _ _ (s .room))) (s .apart)) (s .within)
+  pub in_shape_lem : Shape b words → in_shape b words ≡ true
+  unfolding in_shape
+  in_shape_lem s =
+      let e₂ = and_both s.whole (le-leb _ _ s.few) in
+      and_both (and_both (and_both e₂ (le-leb _ _ s.room)) s.apart) s.within

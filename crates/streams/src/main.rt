@@ -1,11 +1,11 @@
 // Stored streams of call records, served whole and in pieces of several sizes by the calls that the desk makes. A line for each check:
 // the answers are those that are stored beside the stream.
+ghost use Rattle.std.specs.Prelude.{◌≡◌, ◌-◌, ◌≤◌};
+ghost use Rattle.io.specs.Counts.{IsPrefixLen};
+
 use lanes::Stop;
 use steps::Board;
 use turns::Desk;
-ghost use mathlib.Core.Path.{_≡_};
-ghost use Prim.Native.Nat.{_-_, _≤_};
-ghost use Rattle·io.specs.Counts.{Counts};
 
 fn main() {
     streams();
@@ -83,8 +83,7 @@ fn with_room(input: &[u8], room: usize) {
         Stop::End => io::write_all(libc::STDOUT_FILENO, b" written, END\n"),
         Stop::Record => io::write_all(libc::STDOUT_FILENO, b" written, RECORD\n"),
         Stop::Room => io::write_all(libc::STDOUT_FILENO, b" written, ROOM\n"),
-    }
-    ;
+    };
 }
 
 // One stream, in pieces of one byte, of less than a record, of a record, of more, and whole.
@@ -102,7 +101,7 @@ fn stream(name: &[u8], stored: &[u8]) {
 
 // Reads a file into a buffer, and says how many bytes it has.
 fn load(name: &[u8], buffer: &mut [u8]) -> usize
-    ensures { λ r. ⌜ Counts r (now (buffer .exit)) ⌝ }
+    ensures { IsPrefixLen result buffer.new }
 {
     let file = os::open_read(name);
     if file < 0 {
@@ -186,7 +185,7 @@ fn same(a: &[u8], n: usize, b: &[u8], m: usize) -> bool {
 
 // The lesser of two numbers.
 fn least(a: usize, b: usize) -> usize
-    ensures { λ r. ⌜ (r ≤ a) × (r ≤ b) ⌝ }
+    ensures { (result ≤ a) × (result ≤ b) }
 {
     if a <= b {
         return a;
@@ -196,7 +195,7 @@ fn least(a: usize, b: usize) -> usize
 
 // What is left of n past an index.
 fn rest(n: usize, at: usize) -> usize
-    ensures { λ r. ⌜ r ≡ n - at ⌝ }
+    ensures { result ≡ n - at }
 {
     if at <= n {
         return n - at;

@@ -1,23 +1,23 @@
 -- The whole example of document 01, by computation.
 -- Assumes nothing.
-use mathlib.Core.Path.{_≡_, refl}
-use mathlib.Core.List.{List, [], _∷_, _++_}
+use mathlib.Core.Path.{◌≡◌, refl}
+use mathlib.Core.List.{List, [], ◌∷◌, ◌++◌}
 use Prim.Native.Nat.{ℕ}
-use Rattle·fields.specs.Bytes.{sameBytes}
-use Rattle·records.specs.Format.{callAt, callIn, callFrom, callRecord, answerRecord}
-use Rattle·cells.specs.Cells.{cellsOf, withCells, wordsOf, pastCells}
-use Rattle·scans.specs.Rules.{lowestFrom, ownAt, conflict, hasCell}
-use Rattle·steps.specs.Shape.{inShape}
-use Rattle·checks.specs.Check.{firstOf, checkOf}
-use Rattle·places.specs.Spent.{hasPlace, reusable}
-use Rattle·steps.specs.Step.{step, updatedAs}
-use Rattle·steps.specs.Run.{run}
-use Rattle·lanes.specs.Serve.{callsIn, recordsOf}
-use Rattle·turns·specs.specs.Desk.{answersTo, deskOf}
+use Rattle.fields.specs.Bytes.{same_bytes}
+use Rattle.records.specs.Format.{call_at, call_in, call_from, call_record, answer_record}
+use Rattle.cells.specs.Cells.{cells_of, with_cells, words_of, past_cells}
+use Rattle.scans.specs.Rules.{lowest_from, own_at, conflict, has_cell}
+use Rattle.steps.specs.Shape.{in_shape}
+use Rattle.checks.specs.Check.{first_of, check_of}
+use Rattle.places.specs.Spent.{has_place, reusable}
+use Rattle.steps.specs.Step.{step, updated_as}
+use Rattle.steps.specs.Run.{run}
+use Rattle.lanes.specs.Serve.{calls_in, records_of}
+use Rattle.turns.specs.Desk.{answers_to, desk_of}
 
 -- empty input writes nothing
-pub empty : deskOf [] ≡ []
-unfolding deskOf answersTo callsIn run recordsOf
+pub empty : desk_of [] ≡ []
+unfolding desk_of answers_to calls_in run records_of
 empty = refl
 
 -- start at place 0 (transaction 1), key 7 becomes 12, commit number 1
@@ -33,8 +33,8 @@ output =
     ++ (0x41 ∷ (0x4E ∷ (0x00 ∷ (0x00 ∷ (0x00 ∷ (0x00 ∷ (0x00 ∷ (0x00 ∷ []))))))))
     ++ (0x41 ∷ (0x4E ∷ (0x00 ∷ (0x00 ∷ (0x01 ∷ (0x00 ∷ (0x00 ∷ (0x00 ∷ []))))))))
 
-pub example : deskOf input ≡ output
-unfolding input output deskOf answersTo callsIn run recordsOf callAt callIn callFrom callRecord answerRecord sameBytes
-    step checkOf firstOf inShape updatedAs reusable hasPlace lowestFrom ownAt conflict hasCell
-    cellsOf withCells wordsOf pastCells
+pub example : desk_of input ≡ output
+unfolding input output desk_of answers_to calls_in run records_of call_at call_in call_from call_record answer_record same_bytes
+    step check_of first_of in_shape updated_as reusable has_place lowest_from own_at conflict has_cell
+    cells_of with_cells words_of past_cells
 example = refl

@@ -1,25 +1,24 @@
 // The desk: one turn, from the bytes that a read brought to the answers to send.
+ghost use Rattle.std.specs.Prelude.{◌≡◌, ◌*◌, ◌-◌, ◌/◌, ◌≤◌, ◌&&◌, length, take, drop};
+ghost use Rattle.records.specs.Format.{answer_bytes, call_bytes};
+ghost use Rattle.fields.specs.Bytes.{put_at};
+ghost use Rattle.steps.specs.Store.{lent};
+ghost use Rattle.turns.specs.Desk.{desk_words, more_after, at_end, turn_on, fresh_desk, turned_in, turn_put, turn_into};
+
 use cells::Cell;
 use lanes::Stop;
-use records::ANSWER_BYTES;
-use records::CALL_BYTES;
+use records::{ANSWER_BYTES, CALL_BYTES};
 use steps::Board;
-ghost use mathlib.Core.Path.{_≡_};
-ghost use Prim.Native.Nat.{_*_, _-_, _/_, _≤_};
-ghost use mathlib.Core.Bool.{_&&_};
-ghost use lib.ListN.{length, take, drop};
-ghost use Rattle·records.specs.Format.{answerBytes, callBytes};
-ghost use Rattle·fields.specs.Bytes.{putAt};
-ghost use Rattle·steps.specs.Store.{lent};
-ghost use Rattle·turns·specs.specs.Desk.{deskWords, moreAfter, atEnd, turnOn, freshDesk, turnedIn, turnPut, turnInto};
 
 // The desk between two turns: the record, and how many bytes at the front of its input are a cut record.
+#[derive(Drop)]
 pub struct Desk {
     pub board: Board,
     pub left: usize,
 }
 
 // What a turn came to: the desk after it, how many bytes of answers there are to send, and whether there is more to do.
+#[derive(Drop)]
 pub struct Turned {
     pub desk: Desk,
     pub written: usize,
@@ -41,7 +40,7 @@ impl Desk {
 
     // A fresh board, and no byte left.
     pub fn fresh() -> Self
-        ensures { λ r. ⌜ r ≡ freshDesk ⌝ }
+        ensures { result ≡ fresh_desk }
     {
         let board = Board::fresh();
         Desk {
@@ -52,7 +51,7 @@ impl Desk {
 
     // 1,024 cells, every word 0.
     pub fn words() -> [u32; Desk::WORDS]
-        ensures { λ r. ⌜ r ≡ deskWords ⌝ }
+        ensures { result ≡ desk_words }
     {
         [0; Desk::WORDS]
     }
@@ -66,8 +65,8 @@ impl Desk {
         got: usize,
         answers: &mut [u8; Desk::OUTPUT],
     ) -> Turned
-        ensures { λ r. ⌜ turnedIn r (now (cells .exit)) (now (bytes .exit)) (now (answers .exit))
-            ≡ turnInto self (now (cells .entry)) (now (bytes .entry)) got (now (answers .entry)) ⌝ }
+        ensures { turned_in result cells.new bytes.new answers.new
+            ≡ turn_into self cells.old bytes.old got answers.old }
     {
         self.turn_with(cells, bytes, got, answers)
     }
@@ -80,9 +79,9 @@ impl Desk {
         got: usize,
         answers: &mut [u8],
     ) -> Turned
-        requires { ⌜ (answerBytes ≤ length (now answers)) × (answerBytes * (length (now bytes) / callBytes) ≤ length (now answers)) ⌝ }
-        ensures { λ r. ⌜ turnedIn r (now (cells .exit)) (now (bytes .exit)) (now (answers .exit))
-            ≡ turnInto self (now (cells .entry)) (now (bytes .entry)) got (now (answers .entry)) ⌝ }
+        requires { (answer_bytes ≤ length answers.old) × (answer_bytes * (length bytes.old / call_bytes) ≤ length answers.old) }
+        ensures { turned_in result cells.new bytes.new answers.new
+            ≡ turn_into self cells.old bytes.old got answers.old }
     {
         let board = self.board;
         let left = lanes::least(self.left, bytes.len());
@@ -105,7 +104,7 @@ impl Desk {
 impl Turned {
     // Whether the desk goes on: there is more to do, and what it had to send was sent.
     pub fn goes_on(self, sent: bool) -> bool
-        ensures { λ r. ⌜ r ≡ (self .more && sent) ⌝ }
+        ensures { result ≡ (self.more && sent) }
     {
         self.more & sent
     }
@@ -119,9 +118,9 @@ fn turn_on(
     have: usize,
     answers: &mut [u8],
 ) -> Turned
-    requires { ⌜ (have ≤ length (now bytes)) × (answerBytes * (have / callBytes) ≤ length (now answers)) ⌝ }
-    ensures { λ r. ⌜ turnedIn r (now (cells .exit)) (now (bytes .exit)) (now (answers .exit))
-        ≡ turnPut (now (bytes .entry)) (now (answers .entry)) (turnOn (lent board (now (cells .entry))) (take have (now (bytes .entry)))) ⌝ }
+    requires { (have ≤ length bytes.old) × (answer_bytes * (have / call_bytes) ≤ length answers.old) }
+    ensures { turned_in result cells.new bytes.new answers.new
+        ≡ turn_put bytes.old answers.old (turn_on (lent board cells.old) (take have bytes.old)) }
 {
     let s = lanes::serve(board, cells, &bytes[..have], answers);
     let left = carry(bytes, s.taken, have);
@@ -140,7 +139,7 @@ fn turn_on(
 
 // Whether there is more to do after such a stop.
 fn more_after(stop: Stop) -> bool
-    ensures { λ r. ⌜ r ≡ moreAfter stop ⌝ }
+    ensures { result ≡ more_after stop }
 {
     match stop {
         Stop::End => true,
@@ -151,8 +150,8 @@ fn more_after(stop: Stop) -> bool
 
 // Moves the bytes from one index up to another to the front, and says how many they are.
 fn carry(bytes: &mut [u8], from: usize, to: usize) -> usize
-    requires { ⌜ (from ≤ to) × (to ≤ length (now bytes)) ⌝ }
-    ensures { λ r. ⌜ (r ≡ to - from) × (now (bytes .exit) ≡ putAt (now (bytes .entry)) 0 (drop from (take to (now (bytes .entry))))) ⌝ }
+    requires { (from ≤ to) × (to ≤ length bytes.old) }
+    ensures { (result ≡ to - from) × (bytes.new ≡ put_at bytes.old 0 (drop from (take to bytes.old))) }
 {
     let n = to - from;
     for i in 0..n {
@@ -163,8 +162,8 @@ fn carry(bytes: &mut [u8], from: usize, to: usize) -> usize
 
 // The end of the input, with so many bytes left: writes RECORD for a cut record, and says how many bytes were written.
 fn finish(left: usize, answers: &mut [u8]) -> usize
-    requires { ⌜ answerBytes ≤ length (now answers) ⌝ }
-    ensures { λ r. ⌜ (r ≡ length (atEnd left)) × (now (answers .exit) ≡ putAt (now (answers .entry)) 0 (atEnd left)) ⌝ }
+    requires { answer_bytes ≤ length answers.old }
+    ensures { (result ≡ length (at_end left)) × (answers.new ≡ put_at answers.old 0 (at_end left)) }
 {
     if left == 0 {
         return 0;

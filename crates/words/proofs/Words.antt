@@ -1,266 +1,266 @@
 -- Words and records: what stands where, and that words and records are each other's inverse.
---     state-.., word-state              a state and its word
---     wide, place-words, words-place    a place and its words
---     length-places, place-at           the places that words are
---     span, length-at                   the words that the code takes for a place
+--     state-.., word_state              a state and its word
+--     wide, place_words_lem, words_place    a place and its words
+--     length_places, place_at           the places that words are
+--     span, length_at                   the words that the code takes for a place
 --     save-turn, save-end               a turn, and the end, of writing a record
 --     numbers                           theorem: where the counts stand, and how many words there are, as lane.h has it
---     open-inside, open-word            a place that is open is one of those there, and its state word is 1
---     state-set                         another state at a place is another word there
---     record-words                      theorem: the record of a record's words is the record
---     words-record                      theorem: the words of the record of well formed words are the words
---     well-words, fresh-words           theorems: the words of a record are well formed; zeros are the fresh record
+--     open_inside, open_word            a place that is open is one of those there, and its state word is 1
+--     state_set                         another state at a place is another word there
+--     record_words_lem                      theorem: the record of a record's words is the record
+--     words_record                      theorem: the words of the record of well formed words are the words
+--     well_words, fresh_words_lem           theorems: the words of a record are well formed; zeros are the fresh record
 --     loaded-.., saved-..               what reading gives and writing leaves, of as many words as a record is, of others and of a record
 -- Assumes nothing.
-use mathlib.Core.Path.{_≡_, refl, sym, ap, _∙_}
+use mathlib.Core.Path.{◌≡◌, refl, sym, ap, ◌∙◌}
 use mathlib.Core.Bool.{Bool, true, cond}
-use mathlib.Core.List.{List, [], _∷_, _++_, map, flatMap, append-assoc}
-use Prim.Native.Nat.{ℕ, zero, suc, _+_, _*_, _-_, _<_}
+use mathlib.Core.List.{List, [], ◌∷◌, ◌++◌, map, flat_map, append_assoc}
+use Prim.Native.Nat.{ℕ, zero, suc, ◌+◌, ◌*◌, ◌-◌, ◌<◌}
 use native.Mathlib.Nat.{zero-add, suc-add}
 use native.Mathlib.Omega.{arith}
 use lib.Dec.{leb}
-use lib.ListN.{length, getD, set, take, drop, replicate, length-append, length-drop, length-map, take-append-drop, List·getD-map}
-use lib.Seq.{getD-append-add, getD-drop, getD-take, length-take-le, take-all, sets}
-use borrow.Author.Tests.{leb-true, eqb-true, eq-eqb, ne-eqb}
-use Rattle·places.specs.declared.State.{State}
-use Rattle·places.specs.declared.Place.{Place}
-use Rattle·steps.specs.declared.Board.{Board}
-use Rattle·places.specs.Places.{allPlaces, idlePlace, inState}
-use Rattle·steps.specs.Record.{freshBoard, placeAt}
-use Rattle·laws.proofs.Lists.{gets}
-use Rattle·laws.proofs.Tests.{and-left, and-right}
-use Rattle·words·specs.specs.Words.{placeWords, stateWordAt, startsAt, commitsAt, recordWords, stateWord, stateOf, wordsOfPlace, placeOfWords}
-use Rattle·words·specs.specs.Words.{placeFits, wordsAt, placeBlocks, placesOf, wordsOfPlaces, wordsOfCounts, recordOf, wordsOfRecord, wellFormed}
-use Rattle·words·specs.specs.Words.{asLong, loaded, saved}
-use Rattle·laws.specs.Blocks.{blocks, each}
-use Rattle·laws.proofs.Blocks.{length-blocks, block-at, length-written, blocks-written, written-turn, written-blocks, reads-last, stores-last}
+use lib.ListN.{length, get_or, set, take, drop, replicate, length-append, length-drop, length-map, take-append-drop, get_or-map}
+use lib.Seq.{get_or-append-add, get_or-drop, get_or-take, length-take-le, take_all, sets}
+use borrow.Author.Tests.{leb-true, eqb-true, eq-eqb, ne_eqb}
+use Rattle.places.specs.declared.State.{State}
+use Rattle.places.specs.declared.Place.{Place}
+use Rattle.steps.specs.declared.Board.{Board}
+use Rattle.places.specs.Places.{all_places, idle_place, in_state}
+use Rattle.steps.specs.Record.{fresh_board, place_at}
+use Rattle.laws.proofs.Lists.{gets}
+use Rattle.laws.proofs.Tests.{and_left, and_right}
+use Rattle.words.specs.Words.{place_words, state_word_at, starts_at, commits_at, record_words, state_word, state_of, words_of_place, place_of_words}
+use Rattle.words.specs.Words.{place_fits, words_at, place_blocks, places_of, words_of_places, words_of_counts, record_of, words_of_record, well_formed}
+use Rattle.words.specs.Words.{as_long, loaded, saved}
+use Rattle.laws.specs.Blocks.{blocks, each}
+use Rattle.laws.proofs.Blocks.{length_blocks, block_at, length_written, blocks_written, written_turn, written-blocks, reads_last, stores_last}
 
 -- where the counts stand, and how many words there are
-pub numbers : (startsAt ≡ 48) × ((commitsAt ≡ 49) × (recordWords ≡ 50))
+pub numbers : (starts_at ≡ 48) × ((commits_at ≡ 49) × (record_words ≡ 50))
 numbers = (refl, (refl, refl))
 
 -- a word above 2 is read as prepared
-pub state-else : (n : ℕ) → (n ≡ 0 → ⊥) → (n ≡ 1 → ⊥) → (n ≡ 2 → ⊥) → State.Prepared ≡ stateOf n
-state-else zero a b c = absurd (a refl)
-state-else (suc zero) a b c = absurd (b refl)
-state-else (suc (suc zero)) a b c = absurd (c refl)
-state-else (suc (suc (suc n))) a b c = refl
+pub state_else : (n : ℕ) → (n ≡ 0 → ⊥) → (n ≡ 1 → ⊥) → (n ≡ 2 → ⊥) → State.Prepared ≡ state_of n
+state_else zero a b c = absurd (a refl)
+state_else (suc zero) a b c = absurd (b refl)
+state_else (suc (suc zero)) a b c = absurd (c refl)
+state_else (suc (suc (suc n))) a b c = refl
 
 -- the state of a state's word is the state
-state-word : (s : State) → stateOf (stateWord s) ≡ s
-state-word State.Idle = refl
-state-word State.Open = refl
-state-word State.Spoiled = refl
-state-word State.Prepared = refl
+state_word_lem : (s : State) → state_of (state_word s) ≡ s
+state_word_lem State.Idle = refl
+state_word_lem State.Open = refl
+state_word_lem State.Spoiled = refl
+state_word_lem State.Prepared = refl
 
 -- the word of the state of a word up to 3 is the word
-word-state : (n : ℕ) → leb n 3 ≡ true → stateWord (stateOf n) ≡ n
-word-state zero h = refl
-word-state (suc zero) h = refl
-word-state (suc (suc zero)) h = refl
-word-state (suc (suc (suc zero))) h = refl
-word-state (suc (suc (suc (suc n)))) h = absurd (omega (arith, leb-true (suc (suc (suc (suc n)))) 3 h))
+word_state : (n : ℕ) → leb n 3 ≡ true → state_word (state_of n) ≡ n
+word_state zero h = refl
+word_state (suc zero) h = refl
+word_state (suc (suc zero)) h = refl
+word_state (suc (suc (suc zero))) h = refl
+word_state (suc (suc (suc (suc n)))) h = absurd (omega (arith, leb-true (suc (suc (suc (suc n)))) 3 h))
 
 -- the word of a state is at most 3
-state-fits : (s : State) → leb (stateWord s) 3 ≡ true
-state-fits State.Idle = refl
-state-fits State.Open = refl
-state-fits State.Spoiled = refl
-state-fits State.Prepared = refl
+state_fits : (s : State) → leb (state_word s) 3 ≡ true
+state_fits State.Idle = refl
+state_fits State.Open = refl
+state_fits State.Spoiled = refl
+state_fits State.Prepared = refl
 
 -- the words of a place are as many as a place is
-pub wide : (p : Place) → length (wordsOfPlace p) ≡ placeWords
+pub wide : (p : Place) → length (words_of_place p) ≡ place_words
 wide p = refl
 
 -- the place of a place's words is the place
-place-words : (p : Place) → placeOfWords (wordsOfPlace p) ≡ p
-place-words p = rw (state-word (p .state))
+place_words_lem : (p : Place) → place_of_words (words_of_place p) ≡ p
+place_words_lem p = rw (state_word_lem p.state)
 
 -- the words of the place of fitting words are the words
-words-place : (ws : List ℕ) → length ws ≡ placeWords → placeFits ws ≡ true → wordsOfPlace (placeOfWords ws) ≡ ws
-words-place ws l h = rw (word-state (getD ws 0 0) h) (reads-last placeWords ws 0 (omega arith))
+words_place : (ws : List ℕ) → length ws ≡ place_words → place_fits ws ≡ true → words_of_place (place_of_words ws) ≡ ws
+words_place ws l h = rw (word_state (get_or ws 0 0) h) (reads_last place_words ws 0 (omega arith))
 
 -- the words of a place fit
-place-fits : (p : Place) → placeFits (wordsOfPlace p) ≡ true
-place-fits p = state-fits (p .state)
+place_fits_lem : (p : Place) → place_fits (words_of_place p) ≡ true
+place_fits_lem p = state_fits p.state
 
 -- words are always sixteen places
-pub length-places : (ws : List ℕ) → length (placesOf ws) ≡ allPlaces
-unfolding placesOf
-length-places ws = length-map (placeBlocks ws) placeOfWords ∙ length-blocks placeWords allPlaces ws
+pub length_places : (ws : List ℕ) → length (places_of ws) ≡ all_places
+unfolding places_of
+length_places ws = length-map (place_blocks ws) place_of_words ∙ length_blocks place_words all_places ws
 
 -- which place i is
-pub place-at : (ws : List ℕ) (i : ℕ) → i < allPlaces → getD (placesOf ws) i idlePlace ≡ placeOfWords (wordsAt ws i)
-unfolding placesOf
-place-at ws i h = List·getD-map placeOfWords (placeBlocks ws) i [] ∙ ap placeOfWords (block-at placeWords allPlaces i ws [] h)
+pub place_at : (ws : List ℕ) (i : ℕ) → i < all_places → get_or (places_of ws) i idle_place ≡ place_of_words (words_at ws i)
+unfolding places_of
+place_at ws i h = get_or-map place_of_words (place_blocks ws) i [] ∙ ap place_of_words (block_at place_words all_places i ws [] h)
 
 -- a word that is read as open is 1
-open-state : (n : ℕ) → stateOf n ≡ State.Open → n ≡ stateWord State.Open
-open-state zero e = absurd (let z : _≡_ {A = ℕ} 0 1 = cc in omega arith)
-open-state (suc zero) e = refl
-open-state (suc (suc zero)) e = absurd (let z : _≡_ {A = ℕ} 0 1 = cc in omega arith)
-open-state (suc (suc (suc n))) e = absurd (let z : _≡_ {A = ℕ} 0 1 = cc in omega arith)
+open_state : (n : ℕ) → state_of n ≡ State.Open → n ≡ state_word State.Open
+open_state zero e = absurd (let z : ◌≡◌ {A = ℕ} 0 1 = cc in omega arith)
+open_state (suc zero) e = refl
+open_state (suc (suc zero)) e = absurd (let z : ◌≡◌ {A = ℕ} 0 1 = cc in omega arith)
+open_state (suc (suc (suc n))) e = absurd (let z : ◌≡◌ {A = ℕ} 0 1 = cc in omega arith)
 
 -- a place that is open is one of those there
-pub open-inside : (ps : List Place) (i : ℕ) → getD ps i idlePlace .state ≡ State.Open → i < length ps
-open-inside [] i e = absurd (let z : _≡_ {A = ℕ} 0 1 = cc in omega arith)
-open-inside (p ∷ ps) zero e = omega arith
-open-inside (p ∷ ps) (suc i) e = let h = open-inside ps i e in omega arith
+pub open_inside : (ps : List Place) (i : ℕ) → (get_or ps i idle_place).state ≡ State.Open → i < length ps
+open_inside [] i e = absurd (let z : ◌≡◌ {A = ℕ} 0 1 = cc in omega arith)
+open_inside (p ∷ ps) zero e = omega arith
+open_inside (p ∷ ps) (suc i) e = let h = open_inside ps i e in omega arith
 
 -- the first word of a place
-first-word : (ws : List ℕ) (i : ℕ) → getD (wordsAt ws i) 0 0 ≡ getD ws (stateWordAt i) 0
-first-word ws i =
-    let e : stateWordAt i + 0 ≡ stateWordAt i = omega arith in
-    getD-take placeWords (drop (stateWordAt i) ws) 0 0 (omega arith)
-    ∙ getD-drop (stateWordAt i) ws 0 0
-    ∙ ap (λ (n : ℕ). getD ws n 0) e
+first_word : (ws : List ℕ) (i : ℕ) → get_or (words_at ws i) 0 0 ≡ get_or ws (state_word_at i) 0
+first_word ws i =
+    let e : state_word_at i + 0 ≡ state_word_at i = omega arith in
+    get_or-take place_words (drop (state_word_at i) ws) 0 0 (omega arith)
+    ∙ get_or-drop (state_word_at i) ws 0 0
+    ∙ ap (λ (n : ℕ). get_or ws n 0) e
 
 -- the state word of a place that is open is 1
-pub open-word : (ws : List ℕ) (i : ℕ) → getD (placesOf ws) i idlePlace .state ≡ State.Open → getD ws (stateWordAt i) 0 ≡ stateWord State.Open
-open-word ws i e =
-    let h : i < allPlaces = omega (arith, open-inside (placesOf ws) i e, length-places ws) in
-    sym (first-word ws i)
-    ∙ open-state (getD (wordsAt ws i) 0 0) (sym (ap (λ (p : Place). p .state) (place-at ws i h)) ∙ e)
+pub open_word : (ws : List ℕ) (i : ℕ) → (get_or (places_of ws) i idle_place).state ≡ State.Open → get_or ws (state_word_at i) 0 ≡ state_word State.Open
+open_word ws i e =
+    let h : i < all_places = omega (arith, open_inside (places_of ws) i e, length_places ws) in
+    sym (first_word ws i)
+    ∙ open_state (get_or (words_at ws i) 0 0) (sym (ap (λ (p : Place). p.state) (place_at ws i h)) ∙ e)
 
 -- a word set behind a list
-set-behind : (a l : List ℕ) (n x : ℕ) → set (a ++ l) (length a + n) x ≡ a ++ set l n x
-set-behind [] l n x = ap (λ (m : ℕ). set l m x) (zero-add n)
-set-behind (b ∷ a) l n x = ap (λ (m : ℕ). set (b ∷ (a ++ l)) m x) (suc-add (length a) n) ∙ ap (λ (m : List ℕ). b ∷ m) (set-behind a l n x)
+set_behind : (a l : List ℕ) (n x : ℕ) → set (a ++ l) (length a + n) x ≡ a ++ set l n x
+set_behind [] l n x = ap (λ (m : ℕ). set l m x) (zero-add n)
+set_behind (b ∷ a) l n x = ap (λ (m : ℕ). set (b ∷ (a ++ l)) m x) (suc-add (length a) n) ∙ ap (λ (m : List ℕ). b ∷ m) (set_behind a l n x)
 
 -- another state at a place is another word there
-pub state-set : (ps : List Place) (past : List ℕ) (i : ℕ) (s : State) → i < length ps
-    → wordsOfPlaces (set ps i (inState s (getD ps i idlePlace))) ++ past ≡ set (wordsOfPlaces ps ++ past) (stateWordAt i) (stateWord s)
-unfolding wordsOfPlaces flatMap
-state-set [] past i s h = absurd (omega arith)
-state-set (p ∷ ps) past zero s h = refl
-state-set (p ∷ ps) past (suc i) s h =
-    let far : stateWordAt (suc i) ≡ length (wordsOfPlace p) + stateWordAt i = omega arith in
-    append-assoc (wordsOfPlace p) (flatMap wordsOfPlace (set ps i (inState s (getD ps i idlePlace)))) past
-    ∙ ap (λ (l : List ℕ). wordsOfPlace p ++ l) (state-set ps past i s (omega arith))
-    ∙ sym (set-behind (wordsOfPlace p) (flatMap wordsOfPlace ps ++ past) (stateWordAt i) (stateWord s))
-    ∙ (λ j. set (sym (append-assoc (wordsOfPlace p) (flatMap wordsOfPlace ps) past) j) (sym far j) (stateWord s))
+pub state_set : (ps : List Place) (past : List ℕ) (i : ℕ) (s : State) → i < length ps
+    → words_of_places (set ps i (in_state s (get_or ps i idle_place))) ++ past ≡ set (words_of_places ps ++ past) (state_word_at i) (state_word s)
+unfolding words_of_places flat_map
+state_set [] past i s h = absurd (omega arith)
+state_set (p ∷ ps) past zero s h = refl
+state_set (p ∷ ps) past (suc i) s h =
+    let far : state_word_at (suc i) ≡ length (words_of_place p) + state_word_at i = omega arith in
+    append_assoc (words_of_place p) (flat_map words_of_place (set ps i (in_state s (get_or ps i idle_place)))) past
+    ∙ ap (λ (l : List ℕ). words_of_place p ++ l) (state_set ps past i s (omega arith))
+    ∙ sym (set_behind (words_of_place p) (flat_map words_of_place ps ++ past) (state_word_at i) (state_word s))
+    ∙ (λ j. set (sym (append_assoc (words_of_place p) (flat_map words_of_place ps) past) j) (sym far j) (state_word s))
 
 -- how many words the code takes at a place
-pub span : (i : ℕ) → stateWordAt i + placeWords - stateWordAt i ≡ placeWords
+pub span : (i : ℕ) → state_word_at i + place_words - state_word_at i ≡ place_words
 span i = omega arith
 
 -- and that they are all there
-pub length-at : (ws : List ℕ) (i : ℕ) → length ws ≡ recordWords → i < allPlaces → length (wordsAt ws i) ≡ placeWords
-length-at ws i l h =
-    let left = drop (stateWordAt i) ws in length-take-le placeWords left (omega (arith, length-drop (stateWordAt i) ws))
+pub length_at : (ws : List ℕ) (i : ℕ) → length ws ≡ record_words → i < all_places → length (words_at ws i) ≡ place_words
+length_at ws i l h =
+    let left = drop (state_word_at i) ws in length-take-le place_words left (omega (arith, length-drop (state_word_at i) ws))
 
 -- how many words places are
-pub length-words : (ps : List Place) → length (wordsOfPlaces ps) ≡ placeWords * length ps
-unfolding wordsOfPlaces
-length-words ps = length-written placeWords wordsOfPlace wide ps
+pub length_words : (ps : List Place) → length (words_of_places ps) ≡ place_words * length ps
+unfolding words_of_places
+length_words ps = length_written place_words words_of_place wide ps
 
 -- places from their words again
-places-back : (ps : List Place) → map placeOfWords (map wordsOfPlace ps) ≡ ps
-places-back [] = refl
-places-back (p ∷ ps) = λ i. place-words p i ∷ places-back ps i
+places_back : (ps : List Place) → map place_of_words (map words_of_place ps) ≡ ps
+places_back [] = refl
+places_back (p ∷ ps) = λ i. place_words_lem p i ∷ places_back ps i
 
 -- the words of each place fit
-fit-back : (ps : List Place) → each placeFits (map wordsOfPlace ps) ≡ true
+fit_back : (ps : List Place) → each place_fits (map words_of_place ps) ≡ true
 unfolding each
-fit-back [] = refl
-fit-back (p ∷ ps) = rw (place-fits p, fit-back ps)
+fit_back [] = refl
+fit_back (p ∷ ps) = rw (place_fits_lem p, fit_back ps)
 
 -- a record's words
-module _ (b : Board) (full : length (b .places) ≡ allPlaces) where
+module _ (b : Board) (full : length b.places ≡ all_places) where
   -- its blocks are the words of its places
-  blocks-back : placeBlocks (wordsOfRecord b) ≡ map wordsOfPlace (b .places)
-  unfolding wordsOfRecord wordsOfPlaces
-  blocks-back = rw (← full) (blocks-written placeWords wordsOfPlace wide (b .places) (wordsOfCounts b))
+  blocks_back : place_blocks (words_of_record b) ≡ map words_of_place b.places
+  unfolding words_of_record words_of_places
+  blocks_back = rw (← full) (blocks_written place_words words_of_place wide b.places (words_of_counts b))
 
   -- they are as many as a record is
-  pub length-record : length (wordsOfRecord b) ≡ recordWords
-  unfolding wordsOfRecord
-  length-record = omega (arith, length-append (wordsOfPlaces (b .places)) (wordsOfCounts b), length-words (b .places))
+  pub length_record : length (words_of_record b) ≡ record_words
+  unfolding words_of_record
+  length_record = omega (arith, length-append (words_of_places b.places) (words_of_counts b), length_words b.places)
 
   -- the counts stand behind the places
-  count-at : (j : ℕ) → getD (wordsOfRecord b) (startsAt + j) 0 ≡ getD (wordsOfCounts b) j 0
-  unfolding wordsOfRecord
-  count-at j =
-      let e : startsAt + j ≡ length (wordsOfPlaces (b .places)) + j = omega (arith, length-words (b .places)) in
-      rw e (getD-append-add (wordsOfPlaces (b .places)) (wordsOfCounts b) j 0)
+  count_at : (j : ℕ) → get_or (words_of_record b) (starts_at + j) 0 ≡ get_or (words_of_counts b) j 0
+  unfolding words_of_record
+  count_at j =
+      let e : starts_at + j ≡ length (words_of_places b.places) + j = omega (arith, length_words b.places) in
+      rw e (get_or-append-add (words_of_places b.places) (words_of_counts b) j 0)
 
   -- the record of a record's words is the record
-  pub record-words : recordOf (wordsOfRecord b) ≡ b
-  unfolding recordOf placesOf
-  record-words = rw (blocks-back, places-back (b .places), count-at 0, count-at 1)
+  pub record_words_lem : record_of (words_of_record b) ≡ b
+  unfolding record_of places_of
+  record_words_lem = rw (blocks_back, places_back b.places, count_at 0, count_at 1)
 
   -- the words of a record are well formed
-  pub well-words : wellFormed (wordsOfRecord b) ≡ true
-  unfolding wellFormed
-  well-words = rw (eq-eqb (length (wordsOfRecord b)) recordWords length-record, blocks-back) (fit-back (b .places))
+  pub well_words : well_formed (words_of_record b) ≡ true
+  unfolding well_formed
+  well_words = rw (eq-eqb (length (words_of_record b)) record_words length_record, blocks_back) (fit_back b.places)
 
 -- a record written as far as place i
-module _ (l : List ℕ) (long : length l ≡ recordWords) (b : Board) (full : length (b .places) ≡ allPlaces) (i : ℕ)
-    (so : take (stateWordAt i) l ≡ wordsOfPlaces (take i (b .places)))
+module _ (l : List ℕ) (long : length l ≡ record_words) (b : Board) (full : length b.places ≡ all_places) (i : ℕ)
+    (so : take (state_word_at i) l ≡ words_of_places (take i b.places))
   where
     -- one place more
-    pub save-turn : (ws rest : List ℕ) → i < allPlaces → ws ≡ wordsOfPlace (placeAt b i)
-        → take (stateWordAt (i + 1)) (take (stateWordAt i) l ++ (ws ++ rest)) ≡ wordsOfPlaces (take (i + 1) (b .places))
-    unfolding wordsOfPlaces
+    pub save-turn : (ws rest : List ℕ) → i < all_places → ws ≡ words_of_place (place_at b i)
+        → take (state_word_at (i + 1)) (take (state_word_at i) l ++ (ws ++ rest)) ≡ words_of_places (take (i + 1) b.places)
+    unfolding words_of_places
     save-turn ws rest h e =
-        written-turn placeWords wordsOfPlace wide l ws rest (b .places) i idlePlace (omega arith) (omega arith) so e
+        written_turn place_words words_of_place wide l ws rest b.places i idle_place (omega arith) (omega arith) so e
 
     -- the counts behind the last
-    pub save-end : i ≡ allPlaces → sets l startsAt (wordsOfCounts b) ≡ wordsOfRecord b
-    unfolding wordsOfRecord
+    pub save-end : i ≡ all_places → sets l starts_at (words_of_counts b) ≡ words_of_record b
+    unfolding words_of_record
     save-end e =
-        let all : take startsAt l ≡ wordsOfPlaces (take allPlaces (b .places)) = rw e at so in
-        stores-last (wordsOfCounts b) l startsAt (omega arith)
-        ∙ ap (λ (r : List ℕ). r ++ wordsOfCounts b) (all ∙ ap wordsOfPlaces (take-all allPlaces (b .places) (omega arith)))
+        let all : take starts_at l ≡ words_of_places (take all_places b.places) = rw e at so in
+        stores_last (words_of_counts b) l starts_at (omega arith)
+        ∙ ap (λ (r : List ℕ). r ++ words_of_counts b) (all ∙ ap words_of_places (take_all all_places b.places (omega arith)))
 
 -- words that are a record are as many as a record is
-pub well-length : (ws : List ℕ) → wellFormed ws ≡ true → length ws ≡ recordWords
-unfolding wellFormed
-well-length ws h = eqb-true (length ws) recordWords (and-left (asLong ws) (each placeFits (placeBlocks ws)) h)
+pub well_length : (ws : List ℕ) → well_formed ws ≡ true → length ws ≡ record_words
+unfolding well_formed
+well_length ws h = eqb-true (length ws) record_words (and_left (as_long ws) (each place_fits (place_blocks ws)) h)
 
 -- the words of the record of well formed words are the words
-pub words-record : (ws : List ℕ) → wellFormed ws ≡ true → wordsOfRecord (recordOf ws) ≡ ws
-unfolding wellFormed recordOf placesOf wordsOfRecord wordsOfPlaces
-words-record ws h =
-    let l : length ws ≡ recordWords = well-length ws h in
-    let fit : each placeFits (placeBlocks ws) ≡ true = and-right (asLong ws) (each placeFits (placeBlocks ws)) h in
-    let ps : flatMap wordsOfPlace (map placeOfWords (placeBlocks ws)) ≡ take startsAt ws =
-    written-blocks placeWords wordsOfPlace wide placeOfWords placeFits words-place allPlaces ws (omega arith) fit
+pub words_record : (ws : List ℕ) → well_formed ws ≡ true → words_of_record (record_of ws) ≡ ws
+unfolding well_formed record_of places_of words_of_record words_of_places
+words_record ws h =
+    let l : length ws ≡ record_words = well_length ws h in
+    let fit : each place_fits (place_blocks ws) ≡ true = and_right (as_long ws) (each place_fits (place_blocks ws)) h in
+    let ps : flat_map words_of_place (map place_of_words (place_blocks ws)) ≡ take starts_at ws =
+    written-blocks place_words words_of_place wide place_of_words place_fits words_place all_places ws (omega arith) fit
     in
-    let counts : gets (recordWords - startsAt) ws startsAt ≡ drop startsAt ws = reads-last (recordWords - startsAt) ws startsAt (omega arith) in
-    (λ i. ps i ++ counts i) ∙ take-append-drop startsAt ws
+    let counts : gets (record_words - starts_at) ws starts_at ≡ drop starts_at ws = reads_last (record_words - starts_at) ws starts_at (omega arith) in
+    (λ i. ps i ++ counts i) ∙ take-append-drop starts_at ws
 
 -- zeros are the fresh record
-pub fresh-words : recordOf (replicate recordWords 0) ≡ freshBoard
-unfolding recordOf placesOf blocks
-fresh-words = refl
+pub fresh_words_lem : record_of (replicate record_words 0) ≡ fresh_board
+unfolding record_of places_of blocks
+fresh_words_lem = refl
 
 -- what reading gives and writing leaves
 module _ (ws : List ℕ) where
   -- of as many words as a record is
-  module _ (long : length ws ≡ recordWords) where
-    pub loaded-all : loaded ws ≡ recordOf ws
+  module _ (long : length ws ≡ record_words) where
+    pub loaded-all : loaded ws ≡ record_of ws
     unfolding loaded
-    loaded-all = ap (λ (t : Bool). cond t (recordOf ws) freshBoard) (eq-eqb (length ws) recordWords long)
+    loaded-all = ap (λ (t : Bool). cond t (record_of ws) fresh_board) (eq-eqb (length ws) record_words long)
 
-    pub saved-all : (b : Board) → saved ws b ≡ wordsOfRecord b
+    pub saved-all : (b : Board) → saved ws b ≡ words_of_record b
     unfolding saved
-    saved-all b = ap (λ (t : Bool). cond t (wordsOfRecord b) ws) (eq-eqb (length ws) recordWords long)
+    saved-all b = ap (λ (t : Bool). cond t (words_of_record b) ws) (eq-eqb (length ws) record_words long)
 
   -- of another number of words
-  module _ (other : length ws ≡ recordWords → ⊥) where
-    pub loaded-none : loaded ws ≡ freshBoard
+  module _ (other : length ws ≡ record_words → ⊥) where
+    pub loaded-none : loaded ws ≡ fresh_board
     unfolding loaded
-    loaded-none = ap (λ (t : Bool). cond t (recordOf ws) freshBoard) (ne-eqb (length ws) recordWords other)
+    loaded-none = ap (λ (t : Bool). cond t (record_of ws) fresh_board) (ne_eqb (length ws) record_words other)
 
     pub saved-none : (b : Board) → saved ws b ≡ ws
     unfolding saved
-    saved-none b = ap (λ (t : Bool). cond t (wordsOfRecord b) ws) (ne-eqb (length ws) recordWords other)
+    saved-none b = ap (λ (t : Bool). cond t (words_of_record b) ws) (ne_eqb (length ws) record_words other)
 
   -- of words that are a record
-  module _ (well : wellFormed ws ≡ true) where
-    pub loaded-well : loaded ws ≡ recordOf ws
-    loaded-well = loaded-all (well-length ws well)
+  module _ (well : well_formed ws ≡ true) where
+    pub loaded-well : loaded ws ≡ record_of ws
+    loaded-well = loaded-all (well_length ws well)
 
-    pub saved-well : (b : Board) → saved ws b ≡ wordsOfRecord b
-    saved-well = saved-all (well-length ws well)
+    pub saved-well : (b : Board) → saved ws b ≡ words_of_record b
+    saved-well = saved-all (well_length ws well)

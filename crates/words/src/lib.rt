@@ -1,14 +1,12 @@
 // The record as words, as C and Rust hold it: what each word is, whether words are a record, and a record read from them and put into them.
 // Where a word stands is said here alone. Nothing public asks for so many words: in another number of them there is no record to read or to put.
-use places::Place;
-use places::State;
+ghost use Rattle.std.specs.Prelude.{◌≡◌, ◌<◌, length};
+ghost use Rattle.places.specs.Places.{all_places};
+ghost use Rattle.words.specs.Words.{place_words, record_words, state_word, state_of, words_of_place, place_of_words, place_fits, words_at, well_formed};
+ghost use Rattle.words.specs.Words.{loaded, saved};
+
+use places::{Place, State};
 use steps::Board;
-ghost use mathlib.Core.Path.{_≡_};
-ghost use Prim.Native.Nat.{_<_};
-ghost use lib.ListN.{length};
-ghost use Rattle·places.specs.Places.{allPlaces};
-ghost use Rattle·words·specs.specs.Words.{placeWords, recordWords, stateWord, stateOf, wordsOfPlace, placeOfWords, placeFits, wordsAt, wellFormed};
-ghost use Rattle·words·specs.specs.Words.{loaded, saved};
 
 // How many words a place is.
 const PLACE_WORDS: usize = 3;
@@ -24,7 +22,7 @@ const WORDS: usize = COMMITS + 1;
 
 // Whether the words are a record: as many as a record is, and each place's are a place.
 pub fn well_formed(words: &[u32]) -> bool
-    ensures { λ r. ⌜ r ≡ wellFormed (now (words .entry)) ⌝ }
+    ensures { result ≡ well_formed words.now }
 {
     if words.len() != WORDS {
         return false;
@@ -39,7 +37,7 @@ pub fn well_formed(words: &[u32]) -> bool
 
 // The record from its words; the fresh record where they are not as many as a record is.
 pub fn load(words: &[u32]) -> Board
-    ensures { λ r. ⌜ r ≡ loaded (now (words .entry)) ⌝ }
+    ensures { result ≡ loaded words.now }
 {
     let fresh = Board::fresh();
     if words.len() != WORDS {
@@ -58,7 +56,7 @@ pub fn load(words: &[u32]) -> Board
 
 // The record put into its words; no word is put where they are not as many as a record is.
 pub fn save(words: &mut [u32], b: Board)
-    ensures { λ r. ⌜ now (words .exit) ≡ saved (now (words .entry)) b ⌝ }
+    ensures { words.new ≡ saved words.old b }
 {
     if words.len() != WORDS {
         return;
@@ -74,7 +72,7 @@ pub fn save(words: &mut [u32], b: Board)
 
 // The word of a state.
 fn state_word(state: State) -> u32
-    ensures { λ r. ⌜ r ≡ stateWord state ⌝ }
+    ensures { result ≡ state_word state }
 {
     match state {
         State::Idle => 0,
@@ -86,7 +84,7 @@ fn state_word(state: State) -> u32
 
 // The state of a word.
 fn state_of(word: u32) -> State
-    ensures { λ r. ⌜ r ≡ stateOf word ⌝ }
+    ensures { result ≡ state_of word }
 {
     match word {
         0 => State::Idle,
@@ -98,8 +96,8 @@ fn state_of(word: u32) -> State
 
 // The place of its words.
 fn place_of(block: &[u32]) -> Place
-    requires { ⌜ length (now block) ≡ placeWords ⌝ }
-    ensures { λ r. ⌜ r ≡ placeOfWords (now (block .entry)) ⌝ }
+    requires { length block.now ≡ place_words }
+    ensures { result ≡ place_of_words block.now }
 {
     Place {
         number: block[1],
@@ -110,8 +108,8 @@ fn place_of(block: &[u32]) -> Place
 
 // A place put into its words.
 fn put_place(block: &mut [u32], p: Place)
-    requires { ⌜ length (now block) ≡ placeWords ⌝ }
-    ensures { λ r. ⌜ now (block .exit) ≡ wordsOfPlace p ⌝ }
+    requires { length block.old ≡ place_words }
+    ensures { block.new ≡ words_of_place p }
 {
     let s = p.state;
     block[0] = state_word(s);
@@ -121,16 +119,16 @@ fn put_place(block: &mut [u32], p: Place)
 
 // Whether words are a place: no state word above 3.
 fn place_fits(block: &[u32]) -> bool
-    requires { ⌜ length (now block) ≡ placeWords ⌝ }
-    ensures { λ r. ⌜ r ≡ placeFits (now (block .entry)) ⌝ }
+    requires { length block.now ≡ place_words }
+    ensures { result ≡ place_fits block.now }
 {
     block[0] <= 3
 }
 
 // The words of place i.
 fn words_at(words: &[u32], i: usize) -> &[u32]
-    requires { ⌜ (i < allPlaces) × (length (now words) ≡ recordWords) ⌝ }
-    ensures { λ r. ⌜ (now r ≡ wordsAt (now (words .entry)) i) × (length (now r) ≡ placeWords) ⌝ }
+    requires { (i < all_places) × (length words.now ≡ record_words) }
+    ensures { (result.now ≡ words_at words.now i) × (length result.now ≡ place_words) }
 {
     let at = PLACE_WORDS * i;
     &words[at..at + PLACE_WORDS]

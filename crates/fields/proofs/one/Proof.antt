@@ -1,18 +1,18 @@
 use mathlib.Core.Path.{sym}
 use native.Mathlib.Omega.{arith}
-use lib.ListN.{List·getD-eq-default}
-use borrow.Author.Needs.{needs}
-use Rattle·fields·proofs.proofs.one.Statement.{statement}
-use Rattle·fields·proofs.proofs.one.Tie as tie
+use lib.ListN.{get_or-eq_default}
+use borrow.Author.Rules.{rules}
+use Rattle.fields.proofs.one.Statement.{statement}
+use Rattle.fields.proofs.one.Tie as tie
 
-cast-result : tie.Need-cast-result
-cast-result c = omega (arith, c .shared-slice-known .given (c .before .before .args .at))
+cast-result : tie.Need-overflow-cast-result
+cast-result c = omega (arith, c.shared-slice-known.given c.before.before.args.at)
 
 returns : tie.Need-returns
-returns c = (search needs, omega (arith, c .shared-slice-known .given (c .before .before .args .at)))
+returns c = (search rules, omega (arith, c.shared-slice-known.given c.before.before.args.at))
 
 returns-2 : tie.Need-returns-2
-returns-2 c = (sym (List·getD-eq-default (c .before .args .s .now) 0 (c .if1 .left)), search needs)
+returns-2 c = (sym (get_or-eq_default c.before.args.s.now 0 c.if1.false), search rules)
 
-pub one-spec : {M : Type 1} → statement M
-one-spec = tie.close (tie.spec (λ c. search needs) cast-result returns returns-2)
+pub one_spec : {M : Type 1} → statement M
+one_spec = tie.close (tie.spec (λ c. search rules) cast-result returns returns-2)

@@ -1,60 +1,60 @@
-use mathlib.Core.Path.{sym, ap, _∙_}
-use Prim.Native.Nat.{ℕ, _+_, _≤_, _<_}
-use native.Mathlib.Nat.{add-sub-cancel-left}
+use mathlib.Core.Path.{sym, ap, ◌∙◌}
+use Prim.Native.Nat.{ℕ, ◌+◌, ◌≤◌, ◌<◌}
+use native.Mathlib.Nat.{add-sub_cancel_left}
 use native.Mathlib.Omega.{arith}
 use borrow.Author.Tests.{leb-true, leb-false}
-use lib.ListN.{length, take, drop, length-drop, drop-of-length-le}
-use lib.Seq.{take-all, take-nil}
-use Rattle·laws.proofs.Lists.{part-rest}
-use borrow.Author.Needs.{needs}
-use Rattle·fields·proofs.proofs.part.Statement.{statement}
-use Rattle·fields·proofs.proofs.part.Tie as tie
+use lib.ListN.{length, take, drop, length-drop, drop_of_length-le}
+use lib.Seq.{take_all, take-nil}
+use Rattle.laws.proofs.Lists.{part_rest}
+use borrow.Author.Rules.{rules}
+use Rattle.fields.proofs.part.Statement.{statement}
+use Rattle.fields.proofs.part.Tie as tie
 
 -- where the function began, from its test
 abbrev entry : tie.After-room → tie.Start
-entry c = c .before .before
+entry c = c.before.before
 
-fits : (c : tie.Then1) → entry (c .before) .args .at + entry (c .before) .args .bytes ≤ length (entry (c .before) .args .s .now)
-fits c = leb-true _ _ (sym (c .before .room .ensures) ∙ c .if1 .taken)
+fits : (c : tie.Then1) → (entry c.before).args.at + (entry c.before).args.bytes ≤ length (entry c.before).args.s.now
+fits c = leb-true _ _ (sym c.before.room.ensures ∙ c.if1.true)
 
-short : (c : tie.Else1) → length (entry (c .before) .args .s .now) < entry (c .before) .args .at + entry (c .before) .args .bytes
-short c = leb-false _ _ (sym (c .before .room .ensures) ∙ c .if1 .left)
+short : (c : tie.Else1) → length (entry c.before).args.s.now < (entry c.before).args.at + (entry c.before).args.bytes
+short c = leb-false _ _ (sym c.before.room.ensures ∙ c.if1.false)
 
-add-result : tie.Need-add-result
+add-result : tie.Need-overflow-add-result
 add-result c = omega (arith, fits c)
 
-part-result-end : tie.Need-part-result-end
+part-result-end : tie.Need-slice-bounds-result-end
 part-result-end c = omega (arith, fits c)
 
 returns : tie.Need-returns
 returns c =
-    let a = entry (c .before .before) .args in
-    ap (λ (k : ℕ). take k (drop (a .at) (a .s .now))) (add-sub-cancel-left (a .at) (a .bytes))
+    let a = (entry c.before.before).args in
+    ap (λ (k : ℕ). take k (drop a.at a.s.now)) (add-sub_cancel_left a.at a.bytes)
 
 returns-2 : tie.Need-returns-2
 returns-2 c =
-    let a = entry (c .before .before .before) .args in
-    part-rest (a .s .now) (a .at)
-    ∙ sym (take-all (a .bytes) (drop (a .at) (a .s .now)) (omega (arith, short (c .before .before), length-drop (a .at) (a .s .now))))
+    let a = (entry c.before.before.before).args in
+    part_rest a.s.now a.at
+    ∙ sym (take_all a.bytes (drop a.at a.s.now) (omega (arith, short c.before.before, length-drop a.at a.s.now)))
 
 returns-3 : tie.Need-returns-3
 returns-3 c =
-    let a = entry (c .before .before .before) .args in
-    rw (drop-of-length-le (a .s .now) {i = a .at} (c .before .if2 .left)) (sym (take-nil (a .bytes)))
+    let a = (entry c.before.before.before).args in
+    rw (drop_of_length-le a.s.now {i = a.at} c.before.if2.false) (sym (take-nil a.bytes))
 
-pub part-spec : {M : Type 1} → statement M
-part-spec =
+pub part_spec : {M : Type 1} → statement M
+part_spec =
     tie.close
     (tie.spec
-    (λ c κs. search needs)
+    (λ c κs. search rules)
     add-result
-    (λ c. search needs)
-    (λ c. search needs)
+    (λ c. search rules)
+    (λ c. search rules)
     part-result-end
-    (λ c. search needs)
-    (λ c. search needs)
-    (λ c. search needs)
-    (λ c. search needs)
+    (λ c. search rules)
+    (λ c. search rules)
+    (λ c. search rules)
+    (λ c. search rules)
     returns
     returns-2
     returns-3)

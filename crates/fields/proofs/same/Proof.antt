@@ -1,51 +1,51 @@
 -- The loop has the bytes from i on left to test. Assumes nothing.
-use mathlib.Core.Path.{_≡_, refl, sym, _∙_}
-use Prim.Native.Nat.{_-_, _≤_, zero-le}
+use mathlib.Core.Path.{◌≡◌, refl, sym, ◌∙◌}
+use Prim.Native.Nat.{◌-◌, ◌≤◌, zero-le}
 use native.Mathlib.Omega.{arith}
 use lib.ListN.{length, drop}
-use Rattle·fields·specs.specs.Bytes.{sameBytes}
-use Rattle·fields·proofs.proofs.Bytes.{same-lengths, same-differ, same-next, same-end}
-use Rattle·fields·proofs.proofs.same.Statement.{statement}
-use Rattle·fields·proofs.proofs.same.Tie as tie
+use Rattle.fields.specs.Bytes.{same_bytes}
+use Rattle.fields.proofs.Bytes.{same_lengths, same_differ, same_next, same_end}
+use Rattle.fields.proofs.same.Statement.{statement}
+use Rattle.fields.proofs.same.Tie as tie
 
-abbrev Inv-loop : tie.InvT-loop
-Inv-loop a b i₀ i = (length a ≡ length b) × ((i ≤ length a) × (sameBytes a b ≡ sameBytes (drop i a) (drop i b)))
+abbrev invariant-loop : tie.invariant-loop
+invariant-loop a b i₀ i = (length a ≡ length b) × ((i ≤ length a) × (same_bytes a b ≡ same_bytes (drop i a) (drop i b)))
 
-abbrev μ-loop : tie.MeasureT-loop
-μ-loop a b i₀ i = length a - i
+abbrev decreases-loop : tie.decreases-loop
+decreases-loop a b i₀ i = length a - i
 
-returns : tie.Need-returns Inv-loop μ-loop
-returns c = sym (same-lengths _ _ (c .if1 .taken))
+returns : tie.Need-returns invariant-loop decreases-loop
+returns c = sym (same_lengths _ _ c.if1.true)
 
-returns-2 : tie.Need-returns-2 Inv-loop μ-loop
+returns-2 : tie.Need-returns-2 invariant-loop decreases-loop
 returns-2 c =
-    let head = c .before .before .before .before in
-    let inv = head .loop .inv in
-    let a = head .before .before .args in
-    sym (inv .1 .1 ∙ same-differ (a .a .now) (a .b .now) (head .loop .i) (omega arith) (omega arith) (c .if2 .taken))
+    let head = c.before.before.before.before in
+    let inv = head.loop.invariant in
+    let a = head.before.before.args in
+    sym (inv.1.1 ∙ same_differ a.a.now a.b.now head.loop.i (omega arith) (omega arith) c.if2.true)
 
-loop-again : tie.Need-loop-again Inv-loop μ-loop
+loop-again : tie.Need-loop-preserved invariant-loop decreases-loop
 loop-again c =
-    let head = c .before .before .before .before in
-    let inv = head .loop .inv in
-    let a = head .before .before .args in
-    (inv .0, (omega arith, inv .1 .1 ∙ same-next (a .a .now) (a .b .now) (head .loop .i) (omega arith) (omega arith) (c .if2 .left)))
+    let head = c.before.before.before.before in
+    let inv = head.loop.invariant in
+    let a = head.before.before.args in
+    (inv.0, (omega arith, inv.1.1 ∙ same_next a.a.now a.b.now head.loop.i (omega arith) (omega arith) c.if2.false))
 
-returns-3 : tie.Need-returns-3 Inv-loop μ-loop
+returns-3 : tie.Need-returns-3 invariant-loop decreases-loop
 returns-3 c =
-    let head = c .before in
-    let inv = head .loop .inv in
-    let a = head .before .before .args in
-    sym (inv .1 .1 ∙ same-end (a .a .now) (a .b .now) (head .loop .i) (omega arith) (omega arith))
+    let head = c.before in
+    let inv = head.loop.invariant in
+    let a = head.before.before.args in
+    sym (inv.1.1 ∙ same_end a.a.now a.b.now head.loop.i (omega arith) (omega arith))
 
-pub same-spec : {M : Type 1} → statement M
-same-spec =
+pub same_spec : {M : Type 1} → statement M
+same_spec =
     tie.close
     (tie.spec
-    Inv-loop
-    μ-loop
+    invariant-loop
+    decreases-loop
     returns
-    (λ c. (c .if1 .left, (zero-le, refl)))
+    (λ c. (c.if1.false, (zero-le, refl)))
     (λ c. omega arith)
     (λ c. omega arith)
     returns-2

@@ -1,127 +1,126 @@
 -- `serve` meets its contract. The loop's invariant: what serving it all comes to is what is left to serve from here (`Rest`).
 -- The measure is the number of records that are left. Assumes nothing.
-use mathlib.Core.Path.{_≡_, sym, ap, _∙_}
-use Prim.Native.Nat.{ℕ, _+_, _*_, _-_, _≤_, _<_}
+use mathlib.Core.Path.{◌≡◌, sym, ap, ◌∙◌}
+use Prim.Native.Nat.{ℕ, ◌+◌, ◌*◌, ◌-◌, ◌≤◌, ◌<◌}
 use native.Mathlib.Nat.{sub-zero}
 use native.Mathlib.Omega.{arith}
-use borrow.Author.Needs.{needs}
+use borrow.Author.Rules.{rules}
 use borrow.Author.Tests.{not-true, not-false}
-use denote.Ref.{now}
 use lib.ListN.{length}
-use Rattle·records.specs.Format.{callBytes, answerBytes}
-use Rattle·steps.specs.Store.{lent}
-use Rattle·lanes·specs.specs.declared.Stop.{Stop}
-use Rattle·lanes·specs.specs.Serve.{serveInto}
-use Rattle·lanes·proofs.proofs.Rest.{rest, lastStop, rest-whole, rest-none, turn-good, turn-bad}
-use Rattle·lanes·proofs.proofs.serve.Statement.{statement}
-use Rattle·lanes·proofs.proofs.serve.Tie as tie
+use Rattle.records.specs.Format.{call_bytes, answer_bytes}
+use Rattle.steps.specs.Store.{lent}
+use Rattle.lanes.specs.declared.Stop.{Stop}
+use Rattle.lanes.specs.Serve.{serve_into}
+use Rattle.lanes.proofs.Rest.{rest, last_stop, rest_whole, rest_none, turn_good, turn_bad}
+use Rattle.lanes.proofs.serve.Statement.{statement}
+use Rattle.lanes.proofs.serve.Tie as tie
 
-abbrev Inv-loop : tie.InvT-loop
-Inv-loop cells₀ calls answers₀ whole records next₀ i₀ cells answers next i =
+abbrev invariant-loop : tie.invariant-loop
+invariant-loop cells₀ calls answers₀ whole records next₀ i₀ cells answers next i =
     (i ≤ records)
     × (length cells ≡ length cells₀)
     × (length answers ≡ length answers₀)
-    × (rest records 0 (lastStop calls records) (lent next₀ cells₀) calls answers₀
-    ≡ rest (records - i) i (lastStop calls records) (lent next cells) calls answers)
+    × (rest records 0 (last_stop calls records) (lent next₀ cells₀) calls answers₀
+    ≡ rest (records - i) i (last_stop calls records) (lent next cells) calls answers)
 
-abbrev μ-loop : tie.MeasureT-loop
-μ-loop cells₀ calls answers₀ whole records next₀ i₀ cells answers next i = records - i
+abbrev decreases-loop : tie.decreases-loop
+decreases-loop cells₀ calls answers₀ whole records next₀ i₀ cells answers next i = records - i
 
 -- serving it all is what is left before the first record
-whole-is : (c : tie.After-least Inv-loop μ-loop) →
-    let s = c .before .before .before .before .args in
-    serveInto (lent (s .board) (now (s .cells))) (now (s .calls)) (now (s .answers))
-    ≡ rest (c .least .result) 0 (lastStop (now (s .calls)) (c .least .result)) (lent (s .board) (now (s .cells))) (now (s .calls))
-    (now (s .answers))
-whole-is c =
-    let s = c .before .before .before .before .args in
-    rest-whole (lent (s .board) (now (s .cells))) (now (s .calls)) (now (s .answers))
-    ∙ ap (λ (n : ℕ). rest n 0 (lastStop (now (s .calls)) n) (lent (s .board) (now (s .cells))) (now (s .calls)) (now (s .answers)))
-    (sym (c .least .ensures))
+whole_is : (c : tie.After-least invariant-loop decreases-loop) →
+    let s = c.before.before.before.before.args in
+    serve_into (lent s.board s.cells.now) s.calls.now s.answers.now
+    ≡ rest c.least.result 0 (last_stop s.calls.now c.least.result) (lent s.board s.cells.now) s.calls.now
+    s.answers.now
+whole_is c =
+    let s = c.before.before.before.before.args in
+    rest_whole (lent s.board s.cells.now) s.calls.now s.answers.now
+    ∙ ap (λ (n : ℕ). rest n 0 (last_stop s.calls.now n) (lent s.board s.cells.now) s.calls.now s.answers.now)
+    (sym c.least.ensures)
 
-loop-holds : tie.Need-loop-holds Inv-loop μ-loop
+loop-holds : tie.Need-loop-init invariant-loop decreases-loop
 loop-holds c =
-    let s = c .before .before .before .before .args in
-    let last : Stop = lastStop (now (s .calls)) (c .least .result) in (
-      search needs,
-      search needs,
-      search needs,
-      ap (λ (n : ℕ). rest n 0 last (lent (s .board) (now (s .cells))) (now (s .calls)) (now (s .answers))) (sym (sub-zero (c .least .result))),
+    let s = c.before.before.before.before.args in
+    let last : Stop = last_stop s.calls.now c.least.result in (
+      search rules,
+      search rules,
+      search rules,
+      ap (λ (n : ℕ). rest n 0 last (lent s.board s.cells.now) s.calls.now s.answers.now) (sym (sub-zero c.least.result)),
     )
 
-returns : tie.Need-returns Inv-loop μ-loop
+returns : tie.Need-returns invariant-loop decreases-loop
 returns c =
-    let a = c .before .before .before .before .before .before .before in
-    let l = a .before .before .before .before in
-    let s = l .before .before .before .before .before .args in
-    let n : ℕ = l .before .least .result in
-    let here : l .loop .i < n = omega arith in
-    sym (whole-is (l .before)
-    ∙ l .loop .inv .3
-    ∙ turn-bad n (l .loop .i) here (lastStop (now (s .calls)) n) (lent (l .loop .next) (l .loop .cells)) (now (s .calls)) (l .loop .answers)
-    (a .answer-at .result) (a .answer-at .last .1 .0) (a .answer-at .last .1 .1 .1 .1 .0) (a .answer-at .ensures)
-    (not-true (a .answer-at .result .good) (c .if1 .taken)))
+    let a = c.before.before.before.before.before.before.before in
+    let l = a.before.before.before.before in
+    let s = l.before.before.before.before.before.args in
+    let n : ℕ = l.before.least.result in
+    let here : l.loop.i < n = omega arith in
+    sym (whole_is l.before
+    ∙ l.loop.invariant.3
+    ∙ turn_bad n l.loop.i here (last_stop s.calls.now n) (lent l.loop.next l.loop.cells) s.calls.now l.loop.answers
+    a.answer_at.result a.answer_at.new.1.0 a.answer_at.new.1.1.1.1.0 a.answer_at.ensures
+    (not-true a.answer_at.result.good c.if1.true))
 
-loop-again : tie.Need-loop-again Inv-loop μ-loop
+loop-again : tie.Need-loop-preserved invariant-loop decreases-loop
 loop-again c =
-    let a = c .before .before .before .before .before .before .before in
-    let l = a .before .before .before .before in
-    let s = l .before .before .before .before .before .args in
-    let n : ℕ = l .before .least .result in
-    let here : l .loop .i < n = omega arith in
-    let room : answerBytes * l .loop .i + answerBytes ≤ length (l .loop .answers) = omega arith in (
-      search needs,
-      search needs,
-      search needs,
-      l .loop .inv .3
-          ∙ turn-good n (l .loop .i) here (lastStop (now (s .calls)) n) (lent (l .loop .next) (l .loop .cells)) (now (s .calls)) (l .loop .answers)
-          (a .answer-at .result) (a .answer-at .last .1 .0) (a .answer-at .last .1 .1 .1 .1 .0) (a .answer-at .ensures)
-          room (not-false (a .answer-at .result .good) (c .if1 .left)),
+    let a = c.before.before.before.before.before.before.before in
+    let l = a.before.before.before.before in
+    let s = l.before.before.before.before.before.args in
+    let n : ℕ = l.before.least.result in
+    let here : l.loop.i < n = omega arith in
+    let room : answer_bytes * l.loop.i + answer_bytes ≤ length l.loop.answers = omega arith in (
+      search rules,
+      search rules,
+      search rules,
+      l.loop.invariant.3
+          ∙ turn_good n l.loop.i here (last_stop s.calls.now n) (lent l.loop.next l.loop.cells) s.calls.now l.loop.answers
+          a.answer_at.result a.answer_at.new.1.0 a.answer_at.new.1.1.1.1.0 a.answer_at.ensures
+          room (not-false a.answer_at.result.good c.if1.false),
     )
 
-returns-2 : tie.Need-returns-2 Inv-loop μ-loop
+returns-2 : tie.Need-returns-2 invariant-loop decreases-loop
 returns-2 c =
-    let l = c .before .before in
-    let s = l .before .before .before .before .before .args in
-    let n : ℕ = l .before .least .result in
-    let last : Stop = lastStop (now (s .calls)) n in
-    let done : l .loop .i ≡ n = omega arith in
-    let none : n - l .loop .i ≡ 0 = omega arith in
-    sym (whole-is (l .before)
-    ∙ l .loop .inv .3
-    ∙ (λ i. rest (none i) (done i) last (lent (l .loop .next) (l .loop .cells)) (now (s .calls)) (l .loop .answers))
-    ∙ rest-none n last (lent (l .loop .next) (l .loop .cells)) (now (s .calls)) (l .loop .answers)
+    let l = c.before.before in
+    let s = l.before.before.before.before.before.args in
+    let n : ℕ = l.before.least.result in
+    let last : Stop = last_stop s.calls.now n in
+    let done : l.loop.i ≡ n = omega arith in
+    let none : n - l.loop.i ≡ 0 = omega arith in
+    sym (whole_is l.before
+    ∙ l.loop.invariant.3
+    ∙ (λ i. rest (none i) (done i) last (lent l.loop.next l.loop.cells) s.calls.now l.loop.answers)
+    ∙ rest_none n last (lent l.loop.next l.loop.cells) s.calls.now l.loop.answers
     ∙ ap (λ (stop : Stop). record {
-      store = lent (l .loop .next) (l .loop .cells);
-      answers = l .loop .answers;
-      taken = callBytes * n;
-      written = answerBytes * n;
+      store = lent l.loop.next l.loop.cells;
+      answers = l.loop.answers;
+      taken = call_bytes * n;
+      written = answer_bytes * n;
       stop = stop;
-    }) (sym (c .last-stop .ensures)))
+    }) (sym c.last-stop.ensures))
 
-pub serve-spec : {M : Type 1} → statement M
-serve-spec =
+pub serve_spec : {M : Type 1} → statement M
+serve_spec =
     tie.close
     (tie.spec
-    Inv-loop
-    μ-loop
-    (λ c κs. search needs)
+    invariant-loop
+    decreases-loop
+    (λ c κs. search rules)
     loop-holds
-    (λ c. search needs)
-    (λ c. search needs)
-    (λ c κs. search needs)
-    (λ c. search needs)
-    (λ c. search needs)
-    (λ c. search needs)
-    (λ c. search needs)
-    (λ c. search needs)
+    (λ c. search rules)
+    (λ c. search rules)
+    (λ c κs. search rules)
+    (λ c. search rules)
+    (λ c. search rules)
+    (λ c. search rules)
+    (λ c. search rules)
+    (λ c. search rules)
     returns
-    (λ c. search needs)
-    (λ c. search needs)
+    (λ c. search rules)
+    (λ c. search rules)
     loop-again
-    (λ c. search needs)
-    (λ c. search needs)
-    (λ c κs. search needs)
-    (λ c. search needs)
-    (λ c. search needs)
+    (λ c. search rules)
+    (λ c. search rules)
+    (λ c κs. search rules)
+    (λ c. search rules)
+    (λ c. search rules)
     returns-2)

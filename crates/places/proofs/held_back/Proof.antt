@@ -1,82 +1,82 @@
 -- `held_back` meets its contract. The invariant: what is left to look at answers for the whole.
 -- Assumes nothing.
-use mathlib.Core.Path.{_≡_, refl, sym, _∙_}
-use Prim.Native.Nat.{_≤_, _-_}
+use mathlib.Core.Path.{◌≡◌, refl, sym, ◌∙◌}
+use Prim.Native.Nat.{◌≤◌, ◌-◌}
 use native.Mathlib.Omega.{arith}
-use borrow.Author.Needs.{needs}
+use borrow.Author.Rules.{rules}
 use borrow.Author.Tests.{not-true, not-false}
 use lib.ListN.{length, drop}
-use Rattle·cells.specs.Cells.{cellsOf}
-use Rattle·places·specs.specs.Places.{allPlaces}
-use Rattle·places·specs.specs.Spent.{hasPlace, holdsBack, heldBack}
-use Rattle·places·proofs.proofs.Spent.{place-turn, place-end}
-use Rattle·laws.proofs.Tests.{and-is}
-use Rattle·places·proofs.proofs.held_back.Statement.{statement}
-use Rattle·places·proofs.proofs.held_back.Tie as tie
+use Rattle.cells.specs.Cells.{cells_of}
+use Rattle.places.specs.Places.{all_places}
+use Rattle.places.specs.Spent.{has_place, holds_back, held_back}
+use Rattle.places.proofs.Spent.{place_turn, place_end}
+use Rattle.laws.proofs.Tests.{and_is}
+use Rattle.places.proofs.held_back.Statement.{statement}
+use Rattle.places.proofs.held_back.Tie as tie
 
-abbrev Inv-loop : tie.InvT-loop
-Inv-loop cells key number places j₀ j =
-    (j ≤ allPlaces)
-    × (heldBack key number places (cellsOf cells) ≡ hasPlace (holdsBack key number (cellsOf cells)) (drop j places))
+abbrev invariant-loop : tie.invariant-loop
+invariant-loop cells key number places j₀ j =
+    (j ≤ all_places)
+    × (held_back key number places (cells_of cells) ≡ has_place (holds_back key number (cells_of cells)) (drop j places))
 
-abbrev μ-loop : tie.MeasureT-loop
-μ-loop cells key number places j₀ j = allPlaces - j
+abbrev decreases-loop : tie.decreases-loop
+decreases-loop cells key number places j₀ j = all_places - j
 
-loop-holds : tie.Need-loop-holds Inv-loop μ-loop
-unfolding heldBack
-loop-holds c = (search needs, refl)
+loop-holds : tie.Need-loop-init invariant-loop decreases-loop
+unfolding held_back
+loop-holds c = (search rules, refl)
 
-loop-again : tie.Need-loop-again Inv-loop μ-loop
+loop-again : tie.Need-loop-preserved invariant-loop decreases-loop
 loop-again c =
-    let l = c .before .before .before .before in
-    let a = l .before .before .args in
-    let h : length (a .t2) ≡ allPlaces = search needs in
-    let q = holdsBack (a .key) (a .number) (cellsOf (a .cells .now)) in
-    let e = sym (c .before .is-prepared .ensures) ∙ not-true _ (c .if1 .taken) in
-    (search needs, l .loop .inv .1 ∙ place-turn q (a .t2) (l .loop .j) (omega arith) (and-is e refl))
+    let l = c.before.before.before.before in
+    let a = l.before.before.args in
+    let h : length a.t2 ≡ all_places = search rules in
+    let q = holds_back a.key a.number (cells_of a.cells.now) in
+    let e = sym c.before.is-prepared.ensures ∙ not-true _ c.if1.true in
+    (search rules, l.loop.invariant.1 ∙ place_turn q a.t2 l.loop.j (omega arith) (and_is e refl))
 
-returns : tie.Need-returns Inv-loop μ-loop
+returns : tie.Need-returns invariant-loop decreases-loop
 returns c =
-    let l = c .before .before .before .before .before .before in
-    let a = l .before .before .args in
-    let h : length (a .t2) ≡ allPlaces = search needs in
-    let q = holdsBack (a .key) (a .number) (cellsOf (a .cells .now)) in
-    let prepared = sym (c .before .before .before .is-prepared .ensures) ∙ not-false _ (c .before .before .if1 .left) in
-    let e = and-is prepared (sym (c .before .foreign-with .ensures) ∙ c .if2 .taken) in
-    sym (l .loop .inv .1 ∙ place-turn q (a .t2) (l .loop .j) (omega arith) e)
+    let l = c.before.before.before.before.before.before in
+    let a = l.before.before.args in
+    let h : length a.t2 ≡ all_places = search rules in
+    let q = holds_back a.key a.number (cells_of a.cells.now) in
+    let prepared = sym c.before.before.before.is-prepared.ensures ∙ not-false _ c.before.before.if1.false in
+    let e = and_is prepared (sym c.before.foreign-with.ensures ∙ c.if2.true) in
+    sym (l.loop.invariant.1 ∙ place_turn q a.t2 l.loop.j (omega arith) e)
 
-loop-again-2 : tie.Need-loop-again-2 Inv-loop μ-loop
+loop-again-2 : tie.Need-loop-preserved-2 invariant-loop decreases-loop
 loop-again-2 c =
-    let l = c .before .before .before .before .before .before in
-    let a = l .before .before .args in
-    let h : length (a .t2) ≡ allPlaces = search needs in
-    let q = holdsBack (a .key) (a .number) (cellsOf (a .cells .now)) in
-    let prepared = sym (c .before .before .before .is-prepared .ensures) ∙ not-false _ (c .before .before .if1 .left) in
-    let e = and-is prepared (sym (c .before .foreign-with .ensures) ∙ c .if2 .left) in
-    (search needs, l .loop .inv .1 ∙ place-turn q (a .t2) (l .loop .j) (omega arith) e)
+    let l = c.before.before.before.before.before.before in
+    let a = l.before.before.args in
+    let h : length a.t2 ≡ all_places = search rules in
+    let q = holds_back a.key a.number (cells_of a.cells.now) in
+    let prepared = sym c.before.before.before.is-prepared.ensures ∙ not-false _ c.before.before.if1.false in
+    let e = and_is prepared (sym c.before.foreign-with.ensures ∙ c.if2.false) in
+    (search rules, l.loop.invariant.1 ∙ place_turn q a.t2 l.loop.j (omega arith) e)
 
-returns-2 : tie.Need-returns-2 Inv-loop μ-loop
+returns-2 : tie.Need-returns-2 invariant-loop decreases-loop
 returns-2 c =
-    let a = c .before .before .before .args in
-    let l = c .before .loop in
-    let h : length (a .t2) ≡ allPlaces = search needs in
-    sym (l .inv .1 ∙ place-end (holdsBack (a .key) (a .number) (cellsOf (a .cells .now))) (a .t2) (l .j) (omega arith))
+    let a = c.before.before.before.args in
+    let l = c.before.loop in
+    let h : length a.t2 ≡ all_places = search rules in
+    sym (l.invariant.1 ∙ place_end (holds_back a.key a.number (cells_of a.cells.now)) a.t2 l.j (omega arith))
 
-pub held-back-spec : {M : Type 1} → statement M
-held-back-spec =
+pub held_back_spec : {M : Type 1} → statement M
+held_back_spec =
     tie.close
     (tie.spec
-    Inv-loop
-    μ-loop
+    invariant-loop
+    decreases-loop
     loop-holds
-    (λ c. search needs)
-    (λ c. search needs)
-    (λ c. search needs)
-    (λ c κs. search needs)
-    (λ c. search needs)
+    (λ c. search rules)
+    (λ c. search rules)
+    (λ c. search rules)
+    (λ c κs. search rules)
+    (λ c. search rules)
     loop-again
-    (λ c κs. search needs)
+    (λ c κs. search rules)
     returns
-    (λ c. search needs)
+    (λ c. search rules)
     loop-again-2
     returns-2)

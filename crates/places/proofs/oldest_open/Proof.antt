@@ -1,73 +1,73 @@
-use borrow.Author.Needs.{needs}
-use borrow.Author.Count.{below-more}
+use borrow.Author.Rules.{rules}
+use borrow.Author.Count.{below_more}
 use native.Mathlib.Omega.{arith}
-use Prim.Native.Nat.{ℕ, _-_, _≤_, _<_}
-use lib.ListN.{getD}
-use Rattle·places·specs.specs.Places.{allPlaces, idlePlace}
-use Rattle·places·proofs.proofs.Quick.{Older, take-self, take-new, keep-old}
-use Rattle·places·proofs.proofs.oldest_open.Statement.{statement}
-use Rattle·places·proofs.proofs.oldest_open.Tie as tie
+use Prim.Native.Nat.{ℕ, ◌-◌, ◌≤◌, ◌<◌}
+use lib.ListN.{get_or}
+use Rattle.places.specs.Places.{all_places, idle_place}
+use Rattle.places.proofs.Quick.{Older, take_self, take_new, keep_old}
+use Rattle.places.proofs.oldest_open.Statement.{statement}
+use Rattle.places.proofs.oldest_open.Tie as tie
 
-abbrev Inv-loop : tie.InvT-loop
-Inv-loop places r₀ j₀ r j =
-    (r < allPlaces) × (j ≤ allPlaces)
-    × ((k : ℕ) → k < j → Older (getD places r idlePlace) (getD places k idlePlace))
+abbrev invariant-loop : tie.invariant-loop
+invariant-loop places r₀ j₀ r j =
+    (r < all_places) × (j ≤ all_places)
+    × ((k : ℕ) → k < j → Older (get_or places r idle_place) (get_or places k idle_place))
 
-abbrev μ-loop : tie.MeasureT-loop
-μ-loop places r₀ j₀ r j = allPlaces - j
+abbrev decreases-loop : tie.decreases-loop
+decreases-loop places r₀ j₀ r j = all_places - j
 
-loop-holds : tie.Need-loop-holds Inv-loop μ-loop
-loop-holds c = (search needs, search needs, λ k l. absurd (omega arith))
+loop-holds : tie.Need-loop-init invariant-loop decreases-loop
+loop-holds c = (search rules, search rules, λ k l. absurd (omega arith))
 
-loop-again : tie.Need-loop-again Inv-loop μ-loop
+loop-again : tie.Need-loop-preserved invariant-loop decreases-loop
 loop-again c =
-    let l = c .before .before .before .before .before .before .before .before in
-    let ps = l .before .args .t1 in
-    let e = c .before .before .before .before .is-open .ensures in
-    let f = c .before .before .before .is-open2 .ensures in
-    let p = getD ps (l .loop .j) idlePlace in
-    let q = getD ps (l .loop .r) idlePlace in (
-      search needs,
-      search needs,
-      below-more (λ (k : ℕ). Older p (getD ps k idlePlace)) (l .loop .j)
-          (λ k h. take-new p q e f (c .if1 .taken) (getD ps k idlePlace) (l .loop .inv .2 k h))
-          (take-self p),
+    let l = c.before.before.before.before.before.before.before.before in
+    let ps = l.before.args.t1 in
+    let e = c.before.before.before.before.is_open.ensures in
+    let f = c.before.before.before.is-open2.ensures in
+    let p = get_or ps l.loop.j idle_place in
+    let q = get_or ps l.loop.r idle_place in (
+      search rules,
+      search rules,
+      below_more (λ (k : ℕ). Older p (get_or ps k idle_place)) l.loop.j
+          (λ k h. take_new p q e f c.if1.true (get_or ps k idle_place) (l.loop.invariant.2 k h))
+          (take_self p),
     )
 
-loop-again-2 : tie.Need-loop-again-2 Inv-loop μ-loop
+loop-again-2 : tie.Need-loop-preserved-2 invariant-loop decreases-loop
 loop-again-2 c =
-    let l = c .before .before .before .before .before .before .before .before in
-    let ps = l .before .args .t1 in
-    let e = c .before .before .before .before .is-open .ensures in
-    let f = c .before .before .before .is-open2 .ensures in
-    let p = getD ps (l .loop .j) idlePlace in
-    let q = getD ps (l .loop .r) idlePlace in (
-      search needs,
-      search needs,
-      below-more (λ (k : ℕ). Older q (getD ps k idlePlace)) (l .loop .j) (l .loop .inv .2) (keep-old p q e f (c .if1 .left)),
+    let l = c.before.before.before.before.before.before.before.before in
+    let ps = l.before.args.t1 in
+    let e = c.before.before.before.before.is_open.ensures in
+    let f = c.before.before.before.is-open2.ensures in
+    let p = get_or ps l.loop.j idle_place in
+    let q = get_or ps l.loop.r idle_place in (
+      search rules,
+      search rules,
+      below_more (λ (k : ℕ). Older q (get_or ps k idle_place)) l.loop.j l.loop.invariant.2 (keep_old p q e f c.if1.false),
     )
 
-returns : tie.Need-returns Inv-loop μ-loop
+returns : tie.Need-returns invariant-loop decreases-loop
 returns c =
-    let l = c .before .loop in
-    record { inside = l .inv .0; least = λ k h o. l .inv .2 k (omega arith) o .1 }
+    let l = c.before.loop in
+    record { inside = l.invariant.0; least = λ k h o. (l.invariant.2 k (omega arith) o).1 }
 
-pub oldest-open-spec : {M : Type 1} → statement M
-oldest-open-spec =
+pub oldest_open_spec : {M : Type 1} → statement M
+oldest_open_spec =
     tie.close
     (tie.spec
-    Inv-loop
-    μ-loop
+    invariant-loop
+    decreases-loop
     loop-holds
-    (λ c. search needs)
-    (λ c. search needs)
-    (λ c. search needs)
-    (λ c. search needs)
-    (λ c. search needs)
-    (λ c κs. search needs)
-    (λ c κs. search needs)
-    (λ c. search needs)
+    (λ c. search rules)
+    (λ c. search rules)
+    (λ c. search rules)
+    (λ c. search rules)
+    (λ c. search rules)
+    (λ c κs. search rules)
+    (λ c κs. search rules)
+    (λ c. search rules)
     loop-again
-    (λ c. search needs)
+    (λ c. search rules)
     loop-again-2
     returns)

@@ -1,55 +1,55 @@
-use borrow.Author.Needs.{needs}
-use mathlib.Core.Path.{_≡_, refl, sym, _∙_}
+use borrow.Author.Rules.{rules}
+use mathlib.Core.Path.{◌≡◌, refl, sym, ◌∙◌}
 use mathlib.Core.Bool.{true, false}
-use Prim.Native.Nat.{_-_, _≤_}
-use lib.ListN.{getD, drop}
-use Rattle·cells.specs.Cells.{cellsOf, noCell}
-use Rattle·scans·specs.specs.Rules.{foreignWith, hasCell}
-use Rattle·cells.specs.Rules.{foreignOf}
-use Rattle·scans·proofs.proofs.Scan.{has-here, has-next, has-end}
-use Rattle·scans·proofs.proofs.foreign_with.Statement.{statement}
-use Rattle·scans·proofs.proofs.foreign_with.Tie as tie
+use Prim.Native.Nat.{◌-◌, ◌≤◌}
+use lib.ListN.{get_or, drop}
+use Rattle.cells.specs.Cells.{cells_of, no_cell}
+use Rattle.scans.specs.Rules.{foreign_with, has_cell}
+use Rattle.cells.specs.Rules.{foreign_of}
+use Rattle.scans.proofs.Scan.{has_here, has-next, has_end}
+use Rattle.scans.proofs.foreign_with.Statement.{statement}
+use Rattle.scans.proofs.foreign_with.Tie as tie
 
-abbrev Inv-loop : tie.InvT-loop
-Inv-loop cells key number other n i₀ i =
-    (i ≤ n) × (foreignWith key number other (cellsOf cells) ≡ hasCell (foreignOf key number other) (drop i (cellsOf cells)))
+abbrev invariant-loop : tie.invariant-loop
+invariant-loop cells key number other n i₀ i =
+    (i ≤ n) × (foreign_with key number other (cells_of cells) ≡ has_cell (foreign_of key number other) (drop i (cells_of cells)))
 
-abbrev μ-loop : tie.MeasureT-loop
-μ-loop cells key number other n i₀ i = n - i
+abbrev decreases-loop : tie.decreases-loop
+decreases-loop cells key number other n i₀ i = n - i
 
-loop-holds : tie.Need-loop-holds Inv-loop μ-loop
-unfolding foreignWith
-loop-holds c = (search needs, refl)
+loop-holds : tie.Need-loop-init invariant-loop decreases-loop
+unfolding foreign_with
+loop-holds c = (search rules, refl)
 
-returns : tie.Need-returns Inv-loop μ-loop
+returns : tie.Need-returns invariant-loop decreases-loop
 returns c =
-    let l = c .before .before .before .before in
-    let s = l .before .before .before .args in
-    let e : foreignOf (s .key) (s .number) (s .other) (getD (cellsOf (s .cells .now)) (l .loop .i) noCell) ≡ true = cc in
-    sym (l .loop .inv .1 ∙ has-here (s .cells .now) (l .loop .i) (search needs) _ e)
+    let l = c.before.before.before.before in
+    let s = l.before.before.before.args in
+    let e : foreign_of s.key s.number s.other (get_or (cells_of s.cells.now) l.loop.i no_cell) ≡ true = cc in
+    sym (l.loop.invariant.1 ∙ has_here s.cells.now l.loop.i (search rules) _ e)
 
-loop-again : tie.Need-loop-again Inv-loop μ-loop
+loop-again : tie.Need-loop-preserved invariant-loop decreases-loop
 loop-again c =
-    let l = c .before .before .before .before in
-    let s = l .before .before .before .args in
-    let e : foreignOf (s .key) (s .number) (s .other) (getD (cellsOf (s .cells .now)) (l .loop .i) noCell) ≡ false = cc in
-    (search needs, l .loop .inv .1 ∙ has-next (s .cells .now) (l .loop .i) (search needs) _ e)
+    let l = c.before.before.before.before in
+    let s = l.before.before.before.args in
+    let e : foreign_of s.key s.number s.other (get_or (cells_of s.cells.now) l.loop.i no_cell) ≡ false = cc in
+    (search rules, l.loop.invariant.1 ∙ has-next s.cells.now l.loop.i (search rules) _ e)
 
-returns-2 : tie.Need-returns-2 Inv-loop μ-loop
-returns-2 c = sym (c .before .loop .inv .1 ∙ has-end _ (c .before .loop .i) (search needs) _)
+returns-2 : tie.Need-returns-2 invariant-loop decreases-loop
+returns-2 c = sym (c.before.loop.invariant.1 ∙ has_end _ c.before.loop.i (search rules) _)
 
-pub foreign-with-spec : {M : Type 1} → statement M
-foreign-with-spec =
+pub foreign_with_spec : {M : Type 1} → statement M
+foreign_with_spec =
     tie.close
     (tie.spec
-    Inv-loop
-    μ-loop
-    (λ c κs. search needs)
+    invariant-loop
+    decreases-loop
+    (λ c κs. search rules)
     loop-holds
-    (λ c κs. search needs)
-    (λ c κs. search needs)
+    (λ c κs. search rules)
+    (λ c κs. search rules)
     returns
-    (λ c. search needs)
-    (λ c. search needs)
+    (λ c. search rules)
+    (λ c. search rules)
     loop-again
     returns-2)

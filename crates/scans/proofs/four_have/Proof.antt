@@ -1,23 +1,23 @@
-use borrow.Author.Needs.{needs}
-use Rattle·scans·proofs.proofs.four_have.Statement.{statement}
-use Rattle·scans·proofs.proofs.four_have.Tie as tie
+use borrow.Author.Rules.{rules}
+use Rattle.scans.proofs.four_have.Statement.{statement}
+use Rattle.scans.proofs.four_have.Tie as tie
 
 returns : tie.Need-returns
 returns c = cc
 
-pub four-have-spec : {M : Type 1} → statement M
-four-have-spec =
+pub four_have_spec : {M : Type 1} → statement M
+four_have_spec =
     tie.close
     (tie.spec
-    (λ c κs. search needs)
-    (λ c κs. search needs)
-    (λ c. search needs)
-    (λ c κs. search needs)
-    (λ c κs. search needs)
-    (λ c. search needs)
-    (λ c κs. search needs)
-    (λ c κs. search needs)
-    (λ c. search needs)
-    (λ c κs. search needs)
-    (λ c κs. search needs)
+    (λ c κs. search rules)
+    (λ c κs. search rules)
+    (λ c. search rules)
+    (λ c κs. search rules)
+    (λ c κs. search rules)
+    (λ c. search rules)
+    (λ c κs. search rules)
+    (λ c κs. search rules)
+    (λ c. search rules)
+    (λ c κs. search rules)
+    (λ c κs. search rules)
     returns)

@@ -1,16 +1,16 @@
-use borrow.Author.Needs.{needs}
-use Rattle·scans·specs.specs.Tables.{heldIn}
-use Rattle·scans·proofs.proofs.Tables.{in-table, past-table}
-use Rattle·scans·proofs.proofs.held_by.Statement.{statement}
-use Rattle·scans·proofs.proofs.held_by.Tie as tie
+use borrow.Author.Rules.{rules}
+use Rattle.scans.specs.Tables.{held_in}
+use Rattle.scans.proofs.Tables.{in_table, past_table}
+use Rattle.scans.proofs.held_by.Statement.{statement}
+use Rattle.scans.proofs.held_by.Tie as tie
 
 returns : tie.Need-returns
-unfolding heldIn
-returns c = in-table (c .before .before .before .before .before .before .args .c .word) _ _ (search needs)
+unfolding held_in
+returns c = in_table c.before.before.before.before.before.before.args.c.word _ _ (search rules)
 
 returns-2 : tie.Need-returns-2
-unfolding heldIn
-returns-2 c = past-table (c .before .before .args .c .word) _ _ (search needs)
+unfolding held_in
+returns-2 c = past_table c.before.before.args.c.word _ _ (search rules)
 
-pub held-by-spec : {M : Type 1} → statement M
-held-by-spec = tie.close (tie.spec (λ c. search needs) (λ c. search needs) (λ c. search needs) returns returns-2)
+pub held_by_spec : {M : Type 1} → statement M
+held_by_spec = tie.close (tie.spec (λ c. search rules) (λ c. search rules) (λ c. search rules) returns returns-2)

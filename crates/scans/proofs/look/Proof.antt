@@ -1,89 +1,89 @@
-use borrow.Author.Needs.{needs}
+use borrow.Author.Rules.{rules}
 use native.Mathlib.Omega.{arith}
-use mathlib.Core.Path.{_≡_, sym, ap, _∙_}
+use mathlib.Core.Path.{◌≡◌, sym, ap, ◌∙◌}
 use mathlib.Core.Bool.{true}
-use Prim.Native.Nat.{ℕ, _+_, _-_, _<_}
-use lib.ListN.{length, getD, drop}
-use Rattle·cells.specs.declared.Cell.{Cell}
-use Rattle·scans·specs.specs.declared.Looked.{Looked}
-use Rattle·cells.specs.Cells.{noCell, cellsOf, ofKey}
-use Rattle·scans·specs.specs.Rules.{lookOf}
-use Rattle·scans·specs.specs.Search.{noLook, lookTurn, lookFrom}
-use Rattle·cells.proofs.Words.{length-cells}
-use Rattle·scans·proofs.proofs.Looks.{look-skip, look-here, look-end, look-is, look-last}
-use Rattle·scans·proofs.proofs.look.Statement.{statement}
-use Rattle·scans·proofs.proofs.look.Tie as tie
+use Prim.Native.Nat.{ℕ, ◌+◌, ◌-◌, ◌<◌}
+use lib.ListN.{length, get_or, drop}
+use Rattle.cells.specs.declared.Cell.{Cell}
+use Rattle.scans.specs.declared.Looked.{Looked}
+use Rattle.cells.specs.Cells.{no_cell, cells_of, of_key}
+use Rattle.scans.specs.Rules.{look_of}
+use Rattle.scans.specs.Search.{no_look, look_turn, look_from}
+use Rattle.cells.proofs.Words.{length_cells}
+use Rattle.scans.proofs.Looks.{look_skip, look_here, look_end, look_is, look_last}
+use Rattle.scans.proofs.look.Statement.{statement}
+use Rattle.scans.proofs.look.Tie as tie
 
-abbrev Inv-loop : tie.InvT-loop
-Inv-loop cells key reader seen₀ n i₀ seen i =
-    (lookFrom key reader 0 noLook (cellsOf cells) ≡ lookFrom key reader i seen (drop i (cellsOf cells)))
-    × (i < length (cellsOf cells) → ofKey key (getD (cellsOf cells) i noCell) ≡ true)
+abbrev invariant-loop : tie.invariant-loop
+invariant-loop cells key reader seen₀ n i₀ seen i =
+    (look_from key reader 0 no_look (cells_of cells) ≡ look_from key reader i seen (drop i (cells_of cells)))
+    × (i < length (cells_of cells) → of_key key (get_or (cells_of cells) i no_cell) ≡ true)
 
-abbrev μ-loop : tie.MeasureT-loop
-μ-loop cells key reader seen₀ n i₀ seen i = n - i
+abbrev decreases-loop : tie.decreases-loop
+decreases-loop cells key reader seen₀ n i₀ seen i = n - i
 
-returns : tie.Need-returns Inv-loop μ-loop
+returns : tie.Need-returns invariant-loop decreases-loop
 returns c =
-    let s = c .before .before .before .args in
-    let known = c .before .before .shared-slice-known .given in
-    c .before .none .ensures
-    ∙ look-last (s .cells .now) (s .reader) (λ k. omega (arith, known k))
-    ∙ ap (λ (k : ℕ). lookOf k (s .reader) (cellsOf (s .cells .now))) (sym (c .if1 .taken))
+    let s = c.before.before.before.args in
+    let known = c.before.before.shared-slice-known.given in
+    c.before.none.ensures
+    ∙ look_last s.cells.now s.reader (λ k. omega (arith, known k))
+    ∙ ap (λ (k : ℕ). look_of k s.reader (cells_of s.cells.now)) (sym c.if1.true)
 
-loop-holds : tie.Need-loop-holds Inv-loop μ-loop
+loop-holds : tie.Need-loop-init invariant-loop decreases-loop
 loop-holds c =
-    let s = c .before .before .before .before .before .args in
-    let cs = cellsOf (s .cells .now) in
-    let r = c .next .result in
-    let told = c .next .ensures in (
-      look-skip (s .key) (s .reader) noLook cs 0 r (told .onward) (told .passed)
-          ∙ ap (λ (l : Looked). lookFrom (s .key) (s .reader) r l (drop r cs)) (sym (c .before .before .before .none .ensures)),
-      told .found,
+    let s = c.before.before.before.before.before.args in
+    let cs = cells_of s.cells.now in
+    let r = c.next.result in
+    let told = c.next.ensures in (
+      look_skip s.key s.reader no_look cs 0 r told.onward told.passed
+          ∙ ap (λ (l : Looked). look_from s.key s.reader r l (drop r cs)) (sym c.before.before.before.none.ensures),
+      told.found,
     )
 
-loop-again : tie.Need-loop-again Inv-loop μ-loop
+loop-again : tie.Need-loop-preserved invariant-loop decreases-loop
 loop-again c =
-    let l = c .before .before .before .before .loop in
-    let s = c .before .before .before .before .before .before .before .before .before .before .args in
-    let cs = cellsOf (s .cells .now) in
-    let told = c .next2 .ensures in
-    let inside : l .i < length cs = omega (arith, length-cells (s .cells .now)) in
-    let turned = ap (λ (d : Cell). lookTurn (s .reader) (l .i) d (l .seen)) (sym (c .before .before .cell-at .ensures)) in (
-      l .inv .0
-          ∙ look-here (s .key) (s .reader) (l .seen) (s .cells .now) (l .i) (search needs) (l .inv .1 inside)
-          ∙ ap (λ (x : Looked). lookFrom (s .key) (s .reader) (l .i + 1) x (drop (l .i + 1) cs))
-          (turned ∙ sym (c .before .with .ensures))
-          ∙ look-skip (s .key) (s .reader) (c .before .with .result) cs (l .i + 1) (c .next2 .result)
-          (told .onward)
-          (told .passed),
-      told .found,
+    let l = c.before.before.before.before.loop in
+    let s = c.before.before.before.before.before.before.before.before.before.before.args in
+    let cs = cells_of s.cells.now in
+    let told = c.next2.ensures in
+    let inside : l.i < length cs = omega (arith, length_cells s.cells.now) in
+    let turned = ap (λ (d : Cell). look_turn s.reader l.i d l.seen) (sym c.before.before.Cell-at.ensures) in (
+      l.invariant.0
+          ∙ look_here s.key s.reader l.seen s.cells.now l.i (search rules) (l.invariant.1 inside)
+          ∙ ap (λ (x : Looked). look_from s.key s.reader (l.i + 1) x (drop (l.i + 1) cs))
+          (turned ∙ sym c.before.with.ensures)
+          ∙ look_skip s.key s.reader c.before.with.result cs (l.i + 1) c.next2.result
+          told.onward
+          told.passed,
+      told.found,
     )
 
-returns-2 : tie.Need-returns-2 Inv-loop μ-loop
+returns-2 : tie.Need-returns-2 invariant-loop decreases-loop
 returns-2 c =
-    let l = c .before .loop in
-    let s = c .before .before .before .before .before .before .before .args in
-    sym (sym (look-is (s .key) (s .reader) (cellsOf (s .cells .now)))
-    ∙ l .inv .0
-    ∙ look-end (s .key) (s .reader) (l .seen) (s .cells .now) (l .i) (search needs))
+    let l = c.before.loop in
+    let s = c.before.before.before.before.before.before.before.args in
+    sym (sym (look_is s.key s.reader (cells_of s.cells.now))
+    ∙ l.invariant.0
+    ∙ look_end s.key s.reader l.seen s.cells.now l.i (search rules))
 
-pub look-spec : {M : Type 1} → statement M
-look-spec =
+pub look_spec : {M : Type 1} → statement M
+look_spec =
     tie.close
     (tie.spec
-    Inv-loop
-    μ-loop
-    (λ c κs. search needs)
+    invariant-loop
+    decreases-loop
+    (λ c κs. search rules)
     returns
-    (λ c κs. search needs)
-    (λ c. search needs)
-    (λ c κs. search needs)
+    (λ c κs. search rules)
+    (λ c. search rules)
+    (λ c κs. search rules)
     loop-holds
-    (λ c κs. search needs)
-    (λ c κs. search needs)
-    (λ c. search needs)
-    (λ c. search needs)
-    (λ c κs. search needs)
-    (λ c. search needs)
+    (λ c κs. search rules)
+    (λ c κs. search rules)
+    (λ c. search rules)
+    (λ c. search rules)
+    (λ c κs. search rules)
+    (λ c. search rules)
     loop-again
     returns-2)

@@ -1,78 +1,78 @@
-use borrow.Author.Needs.{needs}
-use borrow.Author.Count.{below-more}
-use borrow.Author.Tests.{not-true, eq-eqb, ne-eqb}
+use borrow.Author.Rules.{rules}
+use borrow.Author.Count.{below_more}
+use borrow.Author.Tests.{not-true, eq-eqb, ne_eqb}
 use native.Mathlib.Omega.{arith}
-use mathlib.Core.Path.{_≡_}
-use mathlib.Core.Bool.{false, _||_}
-use Prim.Native.Nat.{ℕ, _-_, _≤_, _<_}
-use lib.ListN.{getD}
-use Rattle·cells.specs.Cells.{cellsOf, noCell}
-use Rattle·cells.specs.Rules.{partIs}
-use Rattle·cells.proofs.Words.{length-cells}
-use Rattle·scans·proofs.proofs.Skip.{eight-more, part-told}
-use Rattle·scans·proofs.proofs.next.Statement.{statement}
-use Rattle·scans·proofs.proofs.next.Tie as tie
+use mathlib.Core.Path.{◌≡◌}
+use mathlib.Core.Bool.{false, ◌||◌}
+use Prim.Native.Nat.{ℕ, ◌-◌, ◌≤◌, ◌<◌}
+use lib.ListN.{get_or}
+use Rattle.cells.specs.Cells.{cells_of, no_cell}
+use Rattle.cells.specs.Rules.{part_is}
+use Rattle.cells.proofs.Words.{length_cells}
+use Rattle.scans.proofs.Skip.{eight_more, part_told}
+use Rattle.scans.proofs.next.Statement.{statement}
+use Rattle.scans.proofs.next.Tie as tie
 
-abbrev Inv-loop : tie.InvT-loop
-Inv-loop cells from number word n i₀ i =
-    (from ≤ i) × ((k : ℕ) → k < i → from ≤ k → partIs number word (getD (cellsOf cells) k noCell) ≡ false)
+abbrev invariant-loop : tie.invariant-loop
+invariant-loop cells from number word n i₀ i =
+    (from ≤ i) × ((k : ℕ) → k < i → from ≤ k → part_is number word (get_or (cells_of cells) k no_cell) ≡ false)
 
-abbrev μ-loop : tie.MeasureT-loop
-μ-loop cells from number word n i₀ i = n - i
+abbrev decreases-loop : tie.decreases-loop
+decreases-loop cells from number word n i₀ i = n - i
 
-loop-holds : tie.Need-loop-holds Inv-loop μ-loop
-loop-holds c = (search needs, λ k l g. absurd (omega arith))
+loop-holds : tie.Need-loop-init invariant-loop decreases-loop
+loop-holds c = (search rules, λ k l g. absurd (omega arith))
 
-loop-again : tie.Need-loop-again Inv-loop μ-loop
+loop-again : tie.Need-loop-preserved invariant-loop decreases-loop
 loop-again c =
-    let l = c .before .before .before .before .before in
-    let s = l .before .before .before .args in
-    let p = partIs (s .number) (s .word) in
-    let none = not-true (c .before .before .four-have .result || c .before .four-have2 .result) (c .if2 .taken) in
-    (search needs, eight-more p (cellsOf (s .cells .now)) (s .from) (l .loop .i) (l .loop .inv .1) (cc))
+    let l = c.before.before.before.before.before in
+    let s = l.before.before.before.args in
+    let p = part_is s.number s.word in
+    let none = not-true (c.before.before.four-have.result || c.before.four-have2.result) c.if2.true in
+    (search rules, eight_more p (cells_of s.cells.now) s.from l.loop.i l.loop.invariant.1 (cc))
 
-returns : tie.Need-returns Inv-loop μ-loop
+returns : tie.Need-returns invariant-loop decreases-loop
 returns c =
-    let l = c .before .before .before .before .before in
-    let s = l .before .before .before .args in
-    let here = part-told (s .number) (s .word) (c .before .before .cell-at .ensures) (c .before .part .ensures) (eq-eqb _ _ (c .if3 .taken)) in
-    record { onward = search needs; passed = l .loop .inv .1; found = λ h. here }
+    let l = c.before.before.before.before.before in
+    let s = l.before.before.before.args in
+    let here = part_told s.number s.word c.before.before.Cell-at.ensures c.before.part.ensures (eq-eqb _ _ c.if3.true) in
+    record { onward = search rules; passed = l.loop.invariant.1; found = λ h. here }
 
-loop-again-2 : tie.Need-loop-again-2 Inv-loop μ-loop
+loop-again-2 : tie.Need-loop-preserved-2 invariant-loop decreases-loop
 loop-again-2 c =
-    let l = c .before .before .before .before .before in
-    let s = l .before .before .before .args in
-    let here = part-told (s .number) (s .word) (c .before .before .cell-at .ensures) (c .before .part .ensures) (ne-eqb _ _ (c .if3 .left)) in
-    (search needs, below-more _ _ (l .loop .inv .1) (λ g. here))
+    let l = c.before.before.before.before.before in
+    let s = l.before.before.before.args in
+    let here = part_told s.number s.word c.before.before.Cell-at.ensures c.before.part.ensures (ne_eqb _ _ c.if3.false) in
+    (search rules, below_more _ _ l.loop.invariant.1 (λ g. here))
 
-returns-2 : tie.Need-returns-2 Inv-loop μ-loop
+returns-2 : tie.Need-returns-2 invariant-loop decreases-loop
 returns-2 c =
-    let s = c .before .before .before .before .args in
+    let s = c.before.before.before.before.args in
     record {
-      onward = search needs;
-      passed = c .before .loop .inv .1;
-      found = λ h. absurd (omega (arith, length-cells (s .cells .now)));
+      onward = search rules;
+      passed = c.before.loop.invariant.1;
+      found = λ h. absurd (omega (arith, length_cells s.cells.now));
     }
 
-pub next-spec : {M : Type 1} → statement M
-next-spec =
+pub next_spec : {M : Type 1} → statement M
+next_spec =
     tie.close
     (tie.spec
-    Inv-loop
-    μ-loop
-    (λ c κs. search needs)
+    invariant-loop
+    decreases-loop
+    (λ c κs. search rules)
     loop-holds
-    (λ c. search needs)
-    (λ c κs. search needs)
-    (λ c. search needs)
-    (λ c κs. search needs)
-    (λ c. search needs)
-    (λ c. search needs)
+    (λ c. search rules)
+    (λ c κs. search rules)
+    (λ c. search rules)
+    (λ c κs. search rules)
+    (λ c. search rules)
+    (λ c. search rules)
     loop-again
-    (λ c κs. search needs)
-    (λ c κs. search needs)
+    (λ c κs. search rules)
+    (λ c κs. search rules)
     returns
-    (λ c. search needs)
-    (λ c. search needs)
+    (λ c. search rules)
+    (λ c. search rules)
     loop-again-2
     returns-2)

@@ -1,19 +1,19 @@
-use borrow.Author.Needs.{needs}
-use mathlib.Core.Path.{_∙_}
-use Rattle·scans·specs.specs.Tables.{outdatedBy}
-use Rattle·scans·proofs.proofs.Tables.{in-table, past-table}
-use Rattle·scans·proofs.proofs.outdated_by.Statement.{statement}
-use Rattle·scans·proofs.proofs.outdated_by.Tie as tie
+use borrow.Author.Rules.{rules}
+use mathlib.Core.Path.{◌∙◌}
+use Rattle.scans.specs.Tables.{outdated_by}
+use Rattle.scans.proofs.Tables.{in_table, past_table}
+use Rattle.scans.proofs.outdated_by.Statement.{statement}
+use Rattle.scans.proofs.outdated_by.Tie as tie
 
 returns : tie.Need-returns
-unfolding outdatedBy
-returns c = in-table (c .before .before .before .before .before .args .c .word) _ _ (search needs)
+unfolding outdated_by
+returns c = in_table c.before.before.before.before.before.args.c.word _ _ (search rules)
 
 returns-2 : tie.Need-returns-2
-unfolding outdatedBy
-returns-2 c = c .outdated .ensures ∙ past-table (c .before .before .before .before .args .c .word) _ _ (search needs)
+unfolding outdated_by
+returns-2 c = c.outdated.ensures ∙ past_table c.before.before.before.before.args.c.word _ _ (search rules)
 
-pub outdated-by-spec : {M : Type 1} → statement M
-outdated-by-spec =
+pub outdated_by_spec : {M : Type 1} → statement M
+outdated_by_spec =
     tie.close
-    (tie.spec (λ c. search needs) (λ c. search needs) (λ c. search needs) returns (λ c κs. search needs) returns-2)
+    (tie.spec (λ c. search rules) (λ c. search rules) (λ c. search rules) returns (λ c κs. search rules) returns-2)

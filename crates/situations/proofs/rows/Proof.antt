@@ -1,54 +1,51 @@
 -- `rows` is safe and ends: the measure is the number of rows that are left. Assumes nothing.
-use mathlib.Core.Path.{_≡_}
-use Prim.Native.Nat.{_-_}
-use lib.ListN.{length}
-use borrow.Author.Needs.{needs}
-use Rattle·situations·proofs.proofs.rows.Statement.{statement}
-use Rattle·situations·proofs.proofs.rows.Tie as tie
+use Rattle.std.proofs.Common.{◌≡◌, ◌-◌, length, rules}
+use Rattle.situations.proofs.rows.Statement.{statement}
+use Rattle.situations.proofs.rows.Tie as tie
 
-abbrev Inv-loop : tie.InvT-loop
-Inv-loop words₀ others₀ table at₀ i₀ words others at i =
+abbrev invariant-loop : tie.invariant-loop
+invariant-loop words₀ others₀ table at₀ i₀ words others at i =
     (length table ≡ 12) × (length words ≡ length words₀) × (length others ≡ length others₀)
 
-abbrev μ-loop : tie.MeasureT-loop
-μ-loop words₀ others₀ table at₀ i₀ words others at i = 12 - i
+abbrev decreases-loop : tie.decreases-loop
+decreases-loop words₀ others₀ table at₀ i₀ words others at i = 12 - i
 
-loop-holds : tie.Need-loop-holds Inv-loop μ-loop
-loop-holds c = search needs
+loop-holds : tie.Need-loop-init invariant-loop decreases-loop
+loop-holds c = search rules
 
-mul-row : tie.Need-mul-row Inv-loop μ-loop
-mul-row c = search needs
+mul-row : tie.Need-overflow-mul-row invariant-loop decreases-loop
+mul-row c = search rules
 
-array-copy-out-row : tie.Need-array-copy-out-row Inv-loop μ-loop
-array-copy-out-row c = search needs
+array-copy-out-row : tie.Need-array-copy-out-row invariant-loop decreases-loop
+array-copy-out-row c = search rules
 
-done-requires : tie.Need-done-requires Inv-loop μ-loop
-done-requires c κs = search needs
+done-requires : tie.Need-done-requires invariant-loop decreases-loop
+done-requires c κs = search rules
 
-add-i : tie.Need-add-i Inv-loop μ-loop
-add-i c = search needs
+add-i : tie.Need-overflow-add-i invariant-loop decreases-loop
+add-i c = search rules
 
-loop-less : tie.Need-loop-less Inv-loop μ-loop
-loop-less c = search needs
+loop-less : tie.Need-loop-smaller invariant-loop decreases-loop
+loop-less c = search rules
 
-loop-again : tie.Need-loop-again Inv-loop μ-loop
-loop-again c = search needs
+loop-again : tie.Need-loop-preserved invariant-loop decreases-loop
+loop-again c = search rules
 
-same-length : tie.Need-same-length Inv-loop μ-loop
-same-length c = search needs
+same_length : tie.Need-same-length invariant-loop decreases-loop
+same_length c = search rules
 
-same-length-2 : tie.Need-same-length-2 Inv-loop μ-loop
-same-length-2 c = search needs
+same-length-2 : tie.Need-same-length-2 invariant-loop decreases-loop
+same-length-2 c = search rules
 
-returns : tie.Need-returns Inv-loop μ-loop
-returns c = search needs
+returns : tie.Need-returns invariant-loop decreases-loop
+returns c = search rules
 
-pub rows-spec : {M : Type 1} → statement M
-rows-spec =
+pub rows_spec : {M : Type 1} → statement M
+rows_spec =
     tie.close
     (tie.spec
-    Inv-loop
-    μ-loop
+    invariant-loop
+    decreases-loop
     loop-holds
     mul-row
     array-copy-out-row
@@ -56,6 +53,6 @@ rows-spec =
     add-i
     loop-less
     loop-again
-    same-length
+    same_length
     same-length-2
     returns)

@@ -1,74 +1,71 @@
 -- `run_all` is safe and ends: the measure is the number of tables that are left. Assumes nothing.
-use mathlib.Core.Path.{_≡_}
-use Prim.Native.Nat.{_-_}
-use lib.ListN.{length}
-use borrow.Author.Needs.{needs}
-use Rattle·situations·proofs.proofs.run_all.Statement.{statement}
-use Rattle·situations·proofs.proofs.run_all.Tie as tie
+use Rattle.std.proofs.Common.{◌≡◌, ◌-◌, length, rules}
+use Rattle.situations.proofs.run_all.Statement.{statement}
+use Rattle.situations.proofs.run_all.Tie as tie
 
-abbrev Inv-loop : tie.InvT-loop
-Inv-loop words₀ others₀ at₀ i₀ t4 t5 words others at i = (length words ≡ length words₀) × (length others ≡ length others₀)
+abbrev invariant-loop : tie.invariant-loop
+invariant-loop words₀ others₀ at₀ i₀ t4 t5 words others at i = (length words ≡ length words₀) × (length others ≡ length others₀)
 
-abbrev μ-loop : tie.MeasureT-loop
-μ-loop words₀ others₀ at₀ i₀ t4 t5 words others at i = 20 - i
+abbrev decreases-loop : tie.decreases-loop
+decreases-loop words₀ others₀ at₀ i₀ t4 t5 words others at i = 20 - i
 
-fresh-requires : tie.Need-fresh-requires Inv-loop μ-loop
-fresh-requires c κs = search needs
+fresh-requires : tie.Need-fresh-requires invariant-loop decreases-loop
+fresh-requires c κs = search rules
 
-fresh-requires-2 : tie.Need-fresh-requires-2 Inv-loop μ-loop
-fresh-requires-2 c κs = search needs
+fresh-requires-2 : tie.Need-fresh-requires-2 invariant-loop decreases-loop
+fresh-requires-2 c κs = search rules
 
-loop-holds : tie.Need-loop-holds Inv-loop μ-loop
-loop-holds c = search needs
+loop-holds : tie.Need-loop-init invariant-loop decreases-loop
+loop-holds c = search rules
 
-table-requires : tie.Need-table-requires Inv-loop μ-loop
-table-requires c κs = search needs
+table-requires : tie.Need-table-requires invariant-loop decreases-loop
+table-requires c κs = search rules
 
-rows-requires : tie.Need-rows-requires Inv-loop μ-loop
-rows-requires c κs = search needs
+rows-requires : tie.Need-rows-requires invariant-loop decreases-loop
+rows-requires c κs = search rules
 
-add-i : tie.Need-add-i Inv-loop μ-loop
-add-i c = search needs
+add-i : tie.Need-overflow-add-i invariant-loop decreases-loop
+add-i c = search rules
 
-loop-less : tie.Need-loop-less Inv-loop μ-loop
-loop-less c = search needs
+loop-less : tie.Need-loop-smaller invariant-loop decreases-loop
+loop-less c = search rules
 
-loop-again : tie.Need-loop-again Inv-loop μ-loop
-loop-again c = search needs
+loop-again : tie.Need-loop-preserved invariant-loop decreases-loop
+loop-again c = search rules
 
-number-requires : tie.Need-number-requires Inv-loop μ-loop
-number-requires c κs = search needs
+number-requires : tie.Need-number-requires invariant-loop decreases-loop
+number-requires c κs = search rules
 
-slice-aggregate-say : tie.Need-slice-aggregate-say Inv-loop μ-loop
-slice-aggregate-say c = search needs
+slice-aggregate-say : tie.Need-slice-aggregate-say invariant-loop decreases-loop
+slice-aggregate-say c = search rules
 
-say-requires : tie.Need-say-requires Inv-loop μ-loop
-say-requires c κs = search needs
+say-requires : tie.Need-say-requires invariant-loop decreases-loop
+say-requires c κs = search rules
 
-number-requires-2 : tie.Need-number-requires-2 Inv-loop μ-loop
-number-requires-2 c κs = search needs
+number-requires-2 : tie.Need-number-requires-2 invariant-loop decreases-loop
+number-requires-2 c κs = search rules
 
-slice-aggregate-say-2 : tie.Need-slice-aggregate-say-2 Inv-loop μ-loop
-slice-aggregate-say-2 c = search needs
+slice-aggregate-say-2 : tie.Need-slice-aggregate-say-2 invariant-loop decreases-loop
+slice-aggregate-say-2 c = search rules
 
-say-requires-2 : tie.Need-say-requires-2 Inv-loop μ-loop
-say-requires-2 c κs = search needs
+say-requires-2 : tie.Need-say-requires-2 invariant-loop decreases-loop
+say-requires-2 c κs = search rules
 
-same-length : tie.Need-same-length Inv-loop μ-loop
-same-length c = search needs
+same_length : tie.Need-same-length invariant-loop decreases-loop
+same_length c = search rules
 
-same-length-2 : tie.Need-same-length-2 Inv-loop μ-loop
-same-length-2 c = search needs
+same-length-2 : tie.Need-same-length-2 invariant-loop decreases-loop
+same-length-2 c = search rules
 
-returns : tie.Need-returns Inv-loop μ-loop
-returns c = search needs
+returns : tie.Need-returns invariant-loop decreases-loop
+returns c = search rules
 
-pub run-all-spec : {M : Type 1} → statement M
-run-all-spec =
+pub run_all_spec : {M : Type 1} → statement M
+run_all_spec =
     tie.close
     (tie.spec
-    Inv-loop
-    μ-loop
+    invariant-loop
+    decreases-loop
     fresh-requires
     fresh-requires-2
     loop-holds
@@ -83,6 +80,6 @@ run-all-spec =
     number-requires-2
     slice-aggregate-say-2
     say-requires-2
-    same-length
+    same_length
     same-length-2
     returns)

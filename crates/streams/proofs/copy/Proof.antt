@@ -1,34 +1,34 @@
 -- `copy` is safe and ends: the measure is the number of bytes that are left. Assumes nothing.
-use mathlib.Core.Path.{_≡_}
-use Prim.Native.Nat.{_-_}
+use mathlib.Core.Path.{◌≡◌}
+use Prim.Native.Nat.{◌-◌}
 use lib.ListN.{length}
-use borrow.Author.Needs.{needs}
-use Rattle·streams·proofs.proofs.copy.Statement.{statement}
-use Rattle·streams·proofs.proofs.copy.Tie as tie
+use borrow.Author.Rules.{rules}
+use Rattle.streams.proofs.copy.Statement.{statement}
+use Rattle.streams.proofs.copy.Tie as tie
 
-abbrev Inv-loop : tie.InvT-loop
-Inv-loop from at n to₀ put k i₀ to i = length to ≡ length to₀
+abbrev invariant-loop : tie.invariant-loop
+invariant-loop from at n to₀ put k i₀ to i = length to ≡ length to₀
 
-abbrev μ-loop : tie.MeasureT-loop
-μ-loop from at n to₀ put k i₀ to i = k - i
+abbrev decreases-loop : tie.decreases-loop
+decreases-loop from at n to₀ put k i₀ to i = k - i
 
-pub copy-spec : {M : Type 1} → statement M
-copy-spec =
+pub copy_spec : {M : Type 1} → statement M
+copy_spec =
     tie.close
     (tie.spec
-    Inv-loop
-    μ-loop
-    (λ c κs. search needs)
-    (λ c κs. search needs)
-    (λ c κs. search needs)
-    (λ c κs. search needs)
-    (λ c. search needs)
-    (λ c. search needs)
-    (λ c. search needs)
-    (λ c. search needs)
-    (λ c. search needs)
-    (λ c. search needs)
-    (λ c. search needs)
-    (λ c. search needs)
-    (λ c. search needs)
-    (λ c. search needs))
+    invariant-loop
+    decreases-loop
+    (λ c κs. search rules)
+    (λ c κs. search rules)
+    (λ c κs. search rules)
+    (λ c κs. search rules)
+    (λ c. search rules)
+    (λ c. search rules)
+    (λ c. search rules)
+    (λ c. search rules)
+    (λ c. search rules)
+    (λ c. search rules)
+    (λ c. search rules)
+    (λ c. search rules)
+    (λ c. search rules)
+    (λ c. search rules))

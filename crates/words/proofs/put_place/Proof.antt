@@ -1,22 +1,22 @@
 -- `words::put_place` meets its contract. Assumes nothing.
-use borrow.Author.Needs.{needs}
-use Rattle·words·specs.specs.Words.{wordsOfPlace}
-use Rattle·laws.proofs.Blocks.{stores-last}
-use Rattle·words·proofs.proofs.put_place.Statement.{statement}
-use Rattle·words·proofs.proofs.put_place.Tie as tie
+use borrow.Author.Rules.{rules}
+use Rattle.words.specs.Words.{words_of_place}
+use Rattle.laws.proofs.Blocks.{stores_last}
+use Rattle.words.proofs.put_place.Statement.{statement}
+use Rattle.words.proofs.put_place.Tie as tie
 
 returns : tie.Need-returns
 returns c =
-    let a = c .before .before .args in
-    rw (c .state-word .ensures) (stores-last (wordsOfPlace (a .p)) (a .block .now) 0 (search needs))
+    let a = c.before.before.args in
+    rw c.state_word_lem.ensures (stores_last (words_of_place a.p) a.block.now 0 (search rules))
 
-pub put-place-spec : {M : Type 1} → statement M
-put-place-spec =
+pub put_place_spec : {M : Type 1} → statement M
+put_place_spec =
     tie.close
     (tie.spec
-    (λ c κs. search needs)
-    (λ c. search needs)
-    (λ c. search needs)
-    (λ c. search needs)
-    (λ c. search needs)
+    (λ c κs. search rules)
+    (λ c. search rules)
+    (λ c. search rules)
+    (λ c. search rules)
+    (λ c. search rules)
     returns)

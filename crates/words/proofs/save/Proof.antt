@@ -1,76 +1,76 @@
 -- `words::save` meets its contract. The invariant: the words written are those of the first places. Assumes nothing.
-use borrow.Author.Needs.{needs}
-use mathlib.Core.Path.{_≡_, refl, sym, _∙_}
-use mathlib.Core.List.{flatMap}
-use Prim.Native.Nat.{_-_, _≤_}
+use borrow.Author.Rules.{rules}
+use mathlib.Core.Path.{◌≡◌, refl, sym, ◌∙◌}
+use mathlib.Core.List.{flat_map}
+use Prim.Native.Nat.{◌-◌, ◌≤◌}
 use native.Mathlib.Omega.{arith}
 use lib.ListN.{length, take, length-set}
-use Rattle·places.specs.Places.{allPlaces}
-use Rattle·laws.proofs.Lists.{long}
-use Rattle·words·specs.specs.Words.{stateWordAt, recordWords, wordsOfPlaces}
-use Rattle·words·proofs.proofs.Words.{span, length-at, save-turn, save-end, saved-all, saved-none}
-use Rattle·words·proofs.proofs.save.Statement.{statement}
-use Rattle·words·proofs.proofs.save.Tie as tie
+use Rattle.places.specs.Places.{all_places}
+use Rattle.laws.proofs.Lists.{long}
+use Rattle.words.specs.Words.{state_word_at, record_words, words_of_places}
+use Rattle.words.proofs.Words.{span, length_at, save-turn, save-end, saved-all, saved-none}
+use Rattle.words.proofs.save.Statement.{statement}
+use Rattle.words.proofs.save.Tie as tie
 
-abbrev Inv-loop : tie.InvT-loop
-Inv-loop words₀ b i₀ words i =
-    (i ≤ allPlaces) × ((length words ≡ recordWords) × (take (stateWordAt i) words ≡ wordsOfPlaces (take i (b .places))))
+abbrev invariant-loop : tie.invariant-loop
+invariant-loop words₀ b i₀ words i =
+    (i ≤ all_places) × ((length words ≡ record_words) × (take (state_word_at i) words ≡ words_of_places (take i b.places)))
 
-abbrev μ-loop : tie.MeasureT-loop
-μ-loop words₀ b i₀ words i = allPlaces - i
+abbrev decreases-loop : tie.decreases-loop
+decreases-loop words₀ b i₀ words i = all_places - i
 
-loop-holds : tie.Need-loop-holds Inv-loop μ-loop
-unfolding wordsOfPlaces flatMap
-loop-holds c = (search needs, (search needs, refl))
+loop-holds : tie.Need-loop-init invariant-loop decreases-loop
+unfolding words_of_places flat_map
+loop-holds c = (search rules, (search rules, refl))
 
-put-place-requires : tie.Need-put-place-requires Inv-loop μ-loop
+put-place-requires : tie.Need-put-place-requires invariant-loop decreases-loop
 put-place-requires c κs =
-    let at = c .before .before .before .loop in rw (span (at .i)) (length-at (at .words) (at .i) (at .inv .1 .0) (search needs))
+    let at = c.before.before.before.loop in rw (span at.i) (length_at at.words at.i at.invariant.1.0 (search rules))
 
-loop-again : tie.Need-loop-again Inv-loop μ-loop
+loop-again : tie.Need-loop-preserved invariant-loop decreases-loop
 loop-again c =
-    let at = c .before .before .before .before .before .before in
-    let l = at .loop .words in
-    let b = at .before .before .before .args .t2 in (
-      search needs,
+    let at = c.before.before.before.before.before.before in
+    let l = at.loop.words in
+    let b = at.before.before.before.args.t2 in (
+      search rules,
       (
-        search needs,
-        save-turn l (at .loop .inv .1 .0) b (search long) (at .loop .i) (at .loop .inv .1 .1) _ _ (search needs)
-            (c .before .before .put-place .ensures),
+        search rules,
+        save-turn l at.loop.invariant.1.0 b (search long) at.loop.i at.loop.invariant.1.1 _ _ (search rules)
+            c.before.before.put-place.ensures,
       ),
     )
 
-same-length : tie.Need-same-length Inv-loop μ-loop
-same-length c = simp length-set (omega arith)
+same_length : tie.Need-same-length invariant-loop decreases-loop
+same_length c = simp length-set (omega arith)
 
-returns-2 : tie.Need-returns-2 Inv-loop μ-loop
+returns-2 : tie.Need-returns-2 invariant-loop decreases-loop
 returns-2 c =
-    let at = c .before .loop in
-    let a = c .before .before .before .before .args in
-    save-end (at .words) (at .inv .1 .0) (a .t2) (search long) (at .i) (at .inv .1 .1) (search needs)
-    ∙ sym (saved-all (a .words .now) (c .before .before .if1 .left) (a .t2))
+    let at = c.before.loop in
+    let a = c.before.before.before.before.args in
+    save-end at.words at.invariant.1.0 a.t2 (search long) at.i at.invariant.1.1 (search rules)
+    ∙ sym (saved-all a.words.now c.before.before.if1.false a.t2)
 
-pub save-spec : {M : Type 1} → statement M
-save-spec =
+pub save_spec : {M : Type 1} → statement M
+save_spec =
     tie.close
     (tie.spec
-    Inv-loop
-    μ-loop
-    (λ c. sym (saved-none _ (c .if1 .taken) _))
+    invariant-loop
+    decreases-loop
+    (λ c. sym (saved-none _ c.if1.true _))
     loop-holds
-    (λ c. search needs)
-    (λ c. search needs)
-    (λ c. search needs)
-    (λ c. search needs)
-    (λ c. search needs)
-    (λ c. search needs)
-    (λ c. search needs)
-    (λ c. search needs)
+    (λ c. search rules)
+    (λ c. search rules)
+    (λ c. search rules)
+    (λ c. search rules)
+    (λ c. search rules)
+    (λ c. search rules)
+    (λ c. search rules)
+    (λ c. search rules)
     put-place-requires
-    (λ c. search needs)
-    (λ c. search needs)
+    (λ c. search rules)
+    (λ c. search rules)
     loop-again
-    (λ c. search needs)
-    (λ c. search needs)
-    same-length
+    (λ c. search rules)
+    (λ c. search rules)
+    same_length
     returns-2)

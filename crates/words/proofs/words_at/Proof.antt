@@ -1,22 +1,22 @@
 -- `words::words_at` meets its contract. Assumes nothing.
-use borrow.Author.Needs.{needs}
+use borrow.Author.Rules.{rules}
 use mathlib.Core.Path.{refl}
-use Rattle·words·proofs.proofs.Words.{span, length-at}
-use Rattle·words·proofs.proofs.words_at.Statement.{statement}
-use Rattle·words·proofs.proofs.words_at.Tie as tie
+use Rattle.words.proofs.Words.{span, length_at}
+use Rattle.words.proofs.words_at.Statement.{statement}
+use Rattle.words.proofs.words_at.Tie as tie
 
 returns : tie.Need-returns
 returns c =
-    let a = c .before .args in rw (span (a .i)) (refl, length-at (a .words .now) (a .i) (search needs) (search needs))
+    let a = c.before.args in rw (span a.i) (refl, length_at a.words.now a.i (search rules) (search rules))
 
-pub words-at-spec : {M : Type 1} → statement M
-words-at-spec =
+pub words_at_spec : {M : Type 1} → statement M
+words_at_spec =
     tie.close
     (tie.spec
-    (λ c. search needs)
-    (λ c. search needs)
-    (λ c. search needs)
-    (λ c. search needs)
-    (λ c. search needs)
-    (λ c. search needs)
+    (λ c. search rules)
+    (λ c. search rules)
+    (λ c. search rules)
+    (λ c. search rules)
+    (λ c. search rules)
+    (λ c. search rules)
     returns)

@@ -1,9 +1,9 @@
-use borrow.Author.Needs.{needs}
-use Rattle·cells·proofs.proofs.Cell.clashes.Statement.{statement}
-use Rattle·cells·proofs.proofs.Cell.clashes.Tie as tie
+use borrow.Author.Rules.{rules}
+use Rattle.cells.proofs.Cell.clashes.Statement.{statement}
+use Rattle.cells.proofs.Cell.clashes.Tie as tie
 
 returns : tie.Need-returns
 returns c = cc
 
-pub clashes-spec : {M : Type 1} → statement M
-clashes-spec = tie.close (tie.spec (λ c κs. search needs) (λ c κs. search needs) returns)
+pub clashes_spec : {M : Type 1} → statement M
+clashes_spec = tie.close (tie.spec (λ c κs. search rules) (λ c κs. search rules) returns)

@@ -1,30 +1,30 @@
-use borrow.Author.Needs.{needs}
+use borrow.Author.Rules.{rules}
 use borrow.Author.Tests.{not-true, not-false}
-use mathlib.Core.Path.{sym, _∙_}
+use mathlib.Core.Path.{sym, ◌∙◌}
 use mathlib.Core.Bool.{true, false}
-use Rattle·cells·proofs.proofs.Writes.{ended-other, ended-own}
-use Rattle·cells·proofs.proofs.Cell.ended.Statement.{statement}
-use Rattle·cells·proofs.proofs.Cell.ended.Tie as tie
+use Rattle.cells.proofs.Writes.{ended-other, ended-own}
+use Rattle.cells.proofs.Cell.ended.Statement.{statement}
+use Rattle.cells.proofs.Cell.ended.Tie as tie
 
 returns : tie.Need-returns
 returns c =
-    let a = c .before .before .args in
-    sym (ended-other (a .number) (a .self) (a .commit) (a .kept) (sym (c .before .own .ensures) ∙ not-true _ (c .if1 .taken)))
+    let a = c.before.before.args in
+    sym (ended-other a.number a.self a.commit a.kept (sym c.before.own.ensures ∙ not-true _ c.if1.true))
 
 returns-2 : tie.Need-returns-2
 returns-2 c =
-    let o = c .before .before .before in
-    let a = o .before .args in
-    let e = sym (o .own .ensures) ∙ not-false _ (c .before .before .if1 .left) in
-    c .sealed .ensures ∙ sym (ended-own (a .number) (a .self) (a .commit) (a .kept) true e (c .before .if2 .taken))
+    let o = c.before.before.before in
+    let a = o.before.args in
+    let e = sym o.own.ensures ∙ not-false _ c.before.before.if1.false in
+    c.sealed.ensures ∙ sym (ended-own a.number a.self a.commit a.kept true e c.before.if2.true)
 
 returns-3 : tie.Need-returns-3
 returns-3 c =
-    let o = c .before .before .before in
-    let a = o .before .args in
-    let e = sym (o .own .ensures) ∙ not-false _ (c .before .before .if1 .left) in
-    c .none .ensures ∙ sym (ended-own (a .number) (a .self) (a .commit) (a .kept) false e (c .before .if2 .left))
+    let o = c.before.before.before in
+    let a = o.before.args in
+    let e = sym o.own.ensures ∙ not-false _ c.before.before.if1.false in
+    c.none.ensures ∙ sym (ended-own a.number a.self a.commit a.kept false e c.before.if2.false)
 
-pub ended-spec : {M : Type 1} → statement M
-ended-spec =
-    tie.close (tie.spec (λ c κs. search needs) (λ c κs. search needs) (λ c κs. search needs) returns returns-2 returns-3)
+pub ended_spec : {M : Type 1} → statement M
+ended_spec =
+    tie.close (tie.spec (λ c κs. search rules) (λ c κs. search rules) (λ c κs. search rules) returns returns-2 returns-3)

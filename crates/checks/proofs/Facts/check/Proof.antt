@@ -1,13 +1,13 @@
 -- `Facts::check` meets its contract.
 -- Assumes nothing.
-use borrow.Author.Needs.{needs}
-use Rattle·checks·specs.specs.Check.{checkOf}
-use Rattle·checks·proofs.proofs.Facts.check.Statement.{statement}
-use Rattle·checks·proofs.proofs.Facts.check.Tie as tie
+use borrow.Author.Rules.{rules}
+use Rattle.checks.specs.Check.{check_of}
+use Rattle.checks.proofs.Facts.check.Statement.{statement}
+use Rattle.checks.proofs.Facts.check.Tie as tie
 
 returns : tie.Need-returns
-unfolding checkOf
-returns c = c .first-of .ensures
+unfolding check_of
+returns c = c.first_of.ensures
 
-pub check-spec : {M : Type 1} → statement M
-check-spec = tie.close (tie.spec (λ c κs. search needs) returns)
+pub check_spec : {M : Type 1} → statement M
+check_spec = tie.close (tie.spec (λ c κs. search rules) returns)

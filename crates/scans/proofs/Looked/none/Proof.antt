@@ -1,9 +1,9 @@
-use borrow.Author.Needs.{needs}
-use Rattle·scans·proofs.proofs.Looked.none.Statement.{statement}
-use Rattle·scans·proofs.proofs.Looked.none.Tie as tie
+use borrow.Author.Rules.{rules}
+use Rattle.scans.proofs.Looked.none.Statement.{statement}
+use Rattle.scans.proofs.Looked.none.Tie as tie
 
 returns : tie.Need-returns
 returns c = cc
 
-pub none-spec : {M : Type 1} → statement M
-none-spec = tie.close (tie.spec (λ c κs. search needs) returns)
+pub none_spec : {M : Type 1} → statement M
+none_spec = tie.close (tie.spec (λ c κs. search rules) returns)

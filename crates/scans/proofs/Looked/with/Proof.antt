@@ -1,17 +1,17 @@
-use borrow.Author.Needs.{needs}
-use Rattle·scans·proofs.proofs.Looked.with.Statement.{statement}
-use Rattle·scans·proofs.proofs.Looked.with.Tie as tie
+use borrow.Author.Rules.{rules}
+use Rattle.scans.proofs.Looked.with.Statement.{statement}
+use Rattle.scans.proofs.Looked.with.Tie as tie
 
 returns : tie.Need-returns
 returns c = cc
 
-pub with-spec : {M : Type 1} → statement M
-with-spec =
+pub with_spec : {M : Type 1} → statement M
+with_spec =
     tie.close
     (tie.spec
-    (λ c κs. search needs)
-    (λ c κs. search needs)
-    (λ c κs. search needs)
-    (λ c κs. search needs)
-    (λ c κs. search needs)
+    (λ c κs. search rules)
+    (λ c κs. search rules)
+    (λ c κs. search rules)
+    (λ c κs. search rules)
+    (λ c κs. search rules)
     returns)

@@ -1,25 +1,25 @@
 -- `Board::lost` meets its contract.
 -- Assumes nothing.
-use borrow.Author.Needs.{needs}
-use mathlib.Core.Path.{_∙_}
-use Rattle·records.specs.declared.Answer.{Answer}
-use Rattle·steps·specs.specs.Record.{withPlace}
-use Rattle·steps·proofs.proofs.Board.lost.Statement.{statement}
-use Rattle·steps·proofs.proofs.Board.lost.Tie as tie
+use borrow.Author.Rules.{rules}
+use mathlib.Core.Path.{◌∙◌}
+use Rattle.records.specs.declared.Answer.{Answer}
+use Rattle.steps.specs.Record.{with_place}
+use Rattle.steps.proofs.Board.lost.Statement.{statement}
+use Rattle.steps.proofs.Board.lost.Tie as tie
 
 returns : tie.Need-returns
 returns c =
-    let a = c .before .before .before .args in
-    c .with .ensures ∙ (λ j. record { answer = Answer.Conflict; board = withPlace (a .t1) (a .at) (c .before .in-state .ensures j) })
+    let a = c.before.before.before.args in
+    c.with.ensures ∙ (λ j. record { answer = Answer.Conflict; board = with_place a.t1 a.at (c.before.in-state.ensures j) })
 
-pub lost-spec : {M : Type 1} → statement M
-lost-spec =
+pub lost_spec : {M : Type 1} → statement M
+lost_spec =
     tie.close
     (tie.spec
-    (λ c. search needs)
-    (λ c. search needs)
-    (λ c κs. search needs)
-    (λ c. search needs)
-    (λ c. search needs)
-    (λ c κs. search needs)
+    (λ c. search rules)
+    (λ c. search rules)
+    (λ c κs. search rules)
+    (λ c. search rules)
+    (λ c. search rules)
+    (λ c κs. search rules)
     returns)
