@@ -1,9 +1,12 @@
 // The cells of a lane board: four lent words to a cell. How many there are, and which word is which, is known here alone.
+
+#![tactic(auto)]
+
 ghost use Rattle.std.specs.Prelude.{◌≡◌, length, get_or, set};
 ghost use Rattle.cells.specs.Cells.{no_cell, cells_of, with_cells, count_of, whole_cells, empty, of_key, committed, own, foreign, admits};
 ghost use Rattle.cells.specs.Rules.{foreign_of, clashes, newest_of, newer, between, part_of, draft, valued, sealed, ended};
 
-#[derive(Drop)]
+#[derive(Clone, Copy)]
 pub struct Cell {
     pub word: u32,
     pub value: u32,
@@ -12,7 +15,7 @@ pub struct Cell {
 }
 
 // Who reads: a transaction's number and its view.
-#[derive(Drop)]
+#[derive(Clone, Copy)]
 pub struct Reader {
     pub number: u32,
     pub view: u32,

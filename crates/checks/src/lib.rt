@@ -1,4 +1,7 @@
 // The checks before a step: what they look at, and the order in which they are asked.
+
+#![tactic(auto)]
+
 ghost use Rattle.std.specs.Prelude.{◌≡◌};
 ghost use Rattle.checks.specs.Check.{is_start, needs_open, needs_unspoiled, first_of, rows_of, check_of, facts_of};
 
@@ -12,7 +15,7 @@ pub const STARTS: u32 = 4_000_000_000;
 const CHECKS: usize = 8;
 
 // What the checks look at: the board, the call, and the state of its place.
-#[derive(Drop)]
+#[derive(Clone, Copy)]
 pub struct Facts {
     pub shaped: bool,
     pub starts: u32,
@@ -27,7 +30,7 @@ pub struct Facts {
 }
 
 // A refusal, and whether what it is given for holds.
-#[derive(Drop)]
+#[derive(Clone, Copy)]
 pub struct Check(pub Answer, pub bool);
 
 impl Facts {

@@ -1,4 +1,7 @@
 // The desk: reads call records from standard input to the end, and writes an answer to each to standard output.
+
+#![tactic(auto)]
+
 ghost use Rattle.std.specs.Prelude.{◌≡◌, take};
 ghost use Rattle.turns.specs.Desk.{desk_words};
 ghost use Rattle.desk.specs.Loop.{Ran};

@@ -1,5 +1,8 @@
 // What byte formats are made of: numbers of so many bytes, little-endian, read and written in lent bytes. Nothing here knows a format,
 // and nothing asks for room: past the end every byte reads as 0, and where there is no room for all no byte is put.
+
+#![tactic(auto)]
+
 ghost use Rattle.std.specs.Prelude.{cond, ◌≡◌, ◌+◌, ◌%◌, ◌<◌, leb, length, get_or, take, drop};
 ghost use Rattle.fields.specs.Bytes.{bytes_of, number_in, same_bytes, put_at};
 

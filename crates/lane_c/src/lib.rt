@@ -1,4 +1,7 @@
 // The lane board for C and Rust: the exported functions. A record crosses as words, which `words` reads and writes.
+
+#![tactic(auto)]
+
 ghost use Rattle.std.specs.Prelude.{◌≡◌};
 ghost use Rattle.records.specs.Answers.{number_of, value_of};
 ghost use Rattle.lane_c.specs.Call.{call_named, upper, lower, crossed, step_on_words, lane_call};
@@ -9,7 +12,7 @@ use records::{Answer, Call, CallRead};
 
 // How far `lane_serve` got: bytes of calls taken, bytes of answers written, and why it stopped.
 #[repr(C)]
-#[derive(Drop)]
+#[derive(Clone, Copy)]
 pub struct LaneServed {
     pub taken: u64,
     pub written: u64,

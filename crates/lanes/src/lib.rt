@@ -1,4 +1,7 @@
 // Lane calls: one call, and a run of call records into answer records.
+
+#![tactic(auto)]
+
 ghost use Rattle.std.specs.Prelude.{◌≡◌, ◌+◌, ◌≤◌, min, true, cond, leb, length};
 ghost use Rattle.records.specs.Answers.{place_of};
 ghost use Rattle.records.specs.Format.{answer_bytes, call_at, written_answer};
@@ -11,7 +14,7 @@ use records::{ANSWER_BYTES, Answer, CALL_BYTES, Call, CallRead, Reply};
 use steps::{Answered, Board};
 
 // Why serving stopped: fewer bytes than a call record are left, bytes that are no call, or no room for one more answer.
-#[derive(Drop)]
+#[derive(Clone, Copy)]
 pub enum Stop {
     End,
     Record,
@@ -19,7 +22,7 @@ pub enum Stop {
 }
 
 // How far serving got: the new record, how many bytes of calls were taken and of answers written, and why it stopped.
-#[derive(Drop)]
+#[derive(Clone, Copy)]
 pub struct Served {
     pub board: Board,
     pub taken: usize,
@@ -28,7 +31,7 @@ pub struct Served {
 }
 
 // The record after one call record, and whether that was a call.
-#[derive(Drop)]
+#[derive(Clone, Copy)]
 struct Next {
     board: Board,
     good: bool,

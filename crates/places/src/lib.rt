@@ -1,4 +1,7 @@
 // The places of a lane board: what a place is, what the shape asks of all of them, and the search for a cell that none of them keeps.
+
+#![tactic(auto)]
+
 ghost use Rattle.std.specs.Prelude.{◌≡◌, ◌&&◌, length, drop};
 ghost use Rattle.cells.specs.Cells.{cells_of};
 ghost use Rattle.places.specs.Places.{idle_place, open_place, in_state, reader_of, is_idle, is_open, is_spoiled, is_prepared};
@@ -13,7 +16,7 @@ use scans::Found;
 pub const PLACES: usize = 16;
 
 // A place is idle or has one transaction.
-#[derive(Drop)]
+#[derive(Clone, Copy)]
 pub enum State {
     Idle,
     Open,
@@ -22,7 +25,7 @@ pub enum State {
 }
 
 // A state, a transaction number and a view.
-#[derive(Drop)]
+#[derive(Clone, Copy)]
 pub struct Place {
     pub state: State,
     pub number: u32,

@@ -1,11 +1,14 @@
 // Calls and answers, and their records: a call's ten bytes, an answer's eight.
+
+#![tactic(auto)]
+
 ghost use Rattle.std.specs.Prelude.{◌&&◌, ◌≡◌};
 ghost use Rattle.fields.specs.Bytes.{goes_in};
 ghost use Rattle.records.specs.Answers.{number_of, value_of, place_of};
 ghost use Rattle.records.specs.Format.{kind_of, key_of, new_value_of, call_layout, answer_layout, call_of, answer_of, call_at, answer_at, wrote, written};
 ghost use Rattle.records.specs.Format.{written_call, written_answer};
 
-#[derive(Drop)]
+#[derive(Clone, Copy)]
 pub enum Call {
     Start { place: u32 },
     Read { place: u32, key: u32 },
@@ -15,7 +18,7 @@ pub enum Call {
     Rollback { place: u32 },
 }
 
-#[derive(Drop)]
+#[derive(Clone, Copy)]
 pub enum Answer {
     Ok(u32),
     Board,
@@ -33,21 +36,21 @@ pub enum Answer {
 }
 
 // An answer with the place byte of its record.
-#[derive(Drop)]
+#[derive(Clone, Copy)]
 pub struct Reply {
     pub place: u32,
     pub answer: Answer,
 }
 
 // What reading a call answers: OK with the call that stands at the offset, or RECORD.
-#[derive(Drop)]
+#[derive(Clone, Copy)]
 pub enum CallRead {
     Good(Call),
     Record,
 }
 
 // What reading an answer answers: OK with the answer that stands at the offset and its place, or RECORD.
-#[derive(Drop)]
+#[derive(Clone, Copy)]
 pub enum AnswerRead {
     Good(Reply),
     Record,

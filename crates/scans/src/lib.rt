@@ -1,4 +1,7 @@
 // Scans of lent cells: what a read, an update and the search for a spent cell ask of them, and what commit and rollback write in them.
+
+#![tactic(auto)]
+
 ghost use Rattle.std.specs.Prelude.{◌≡◌, map, ◌+◌, ◌<◌, length};
 ghost use Rattle.cells.specs.Cells.{cells_of, with_cells, count_of};
 ghost use Rattle.cells.specs.Rules.{part_is, newer, stamped, wiped, ended};
@@ -9,14 +12,14 @@ ghost use Rattle.scans.specs.Tables.{raised, tops_of, any_cell, up_to, outdated_
 use cells::{Cell, Reader};
 
 // Where a scan found what it looked for: a cell's number, or nowhere.
-#[derive(Drop)]
+#[derive(Clone, Copy)]
 pub enum Found {
     At(usize),
     Nothing,
 }
 
 // What a read and an update ask of a key's cells.
-#[derive(Drop)]
+#[derive(Clone, Copy)]
 pub struct Looked {
     pub own: Found,
     pub foreign: bool,
@@ -195,7 +198,7 @@ pub fn look(cells: &[u32], key: u32, reader: Reader) -> Looked
 pub const TOPS: usize = cells::KEYS as usize + 1;
 
 // For each first word below TOPS the greatest commit number of its cells, of all of them and of those that a reader sees
-#[derive(Drop)]
+#[derive(Clone, Copy)]
 pub struct Tops {
     pub all: [u32; TOPS],
     pub seen: [u32; TOPS],

@@ -1,5 +1,8 @@
 // The situations on the road, run on real boards: 1 to 10 again, and 11. Each call is made twice: as a value on one board, and on another
 // as bytes, as a console sends it. A line for each row: what was called, and what came back.
+
+#![tactic(auto)]
+
 ghost use Rattle.std.specs.Prelude.{◌≤◌};
 
 use cells::Cell;
@@ -9,7 +12,7 @@ use steps::{Answered, Board};
 // A row of the table: what is done, three numbers for it, and what is to come back, number and value. A CASE begins a situation on a
 // fresh board of so many words, GOES_ON one on the same board; a CELL names a cell and the
 // four words that it is to hold. A table has twelve rows, the last of them END.
-#[derive(Drop)]
+#[derive(Clone, Copy)]
 struct Row(u32, u32, u32, u32, u32, u32);
 
 const CASE: u32 = 0;
@@ -381,7 +384,7 @@ const CASE_11_i: [Row; 12] = [
 
 // How far the run is: the record that calls go to as values and the one that they go to as bytes, how many words are lent to each, the
 // situation and its step, and how many checks there were and were wrong.
-#[derive(Drop)]
+#[derive(Clone, Copy)]
 struct Run {
     board: Board,
     served: Board,
@@ -519,7 +522,7 @@ fn as_bytes(board: Board, words: &mut [u32], length: usize, call: Call) -> Sent 
 }
 
 // What came back for a call that went as bytes: the answer, whether its record has the call's place, and the new record.
-#[derive(Drop)]
+#[derive(Clone, Copy)]
 struct Sent {
     board: Board,
     answer: Answer,

@@ -1,5 +1,8 @@
 // Stored streams of call records, served whole and in pieces of several sizes by the calls that the desk makes. A line for each check:
 // the answers are those that are stored beside the stream.
+
+#![tactic(auto)]
+
 ghost use Rattle.std.specs.Prelude.{◌≡◌, ◌-◌, ◌≤◌};
 ghost use Rattle.io.specs.Counts.{IsPrefixLen};
 

@@ -1,4 +1,7 @@
 // The desk: one turn, from the bytes that a read brought to the answers to send.
+
+#![tactic(auto)]
+
 ghost use Rattle.std.specs.Prelude.{◌≡◌, ◌*◌, ◌-◌, ◌/◌, ◌≤◌, ◌&&◌, length, take, drop};
 ghost use Rattle.records.specs.Format.{answer_bytes, call_bytes};
 ghost use Rattle.fields.specs.Bytes.{put_at};
@@ -11,14 +14,14 @@ use records::{ANSWER_BYTES, CALL_BYTES};
 use steps::Board;
 
 // The desk between two turns: the record, and how many bytes at the front of its input are a cut record.
-#[derive(Drop)]
+#[derive(Clone, Copy)]
 pub struct Desk {
     pub board: Board,
     pub left: usize,
 }
 
 // What a turn came to: the desk after it, how many bytes of answers there are to send, and whether there is more to do.
-#[derive(Drop)]
+#[derive(Clone, Copy)]
 pub struct Turned {
     pub desk: Desk,
     pub written: usize,

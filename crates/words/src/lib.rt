@@ -1,5 +1,8 @@
 // The record as words, as C and Rust hold it: what each word is, whether words are a record, and a record read from them and put into them.
 // Where a word stands is said here alone. Nothing public asks for so many words: in another number of them there is no record to read or to put.
+
+#![tactic(auto)]
+
 ghost use Rattle.std.specs.Prelude.{◌≡◌, ◌<◌, length};
 ghost use Rattle.places.specs.Places.{all_places};
 ghost use Rattle.words.specs.Words.{place_words, record_words, state_word, state_of, words_of_place, place_of_words, place_fits, words_at, well_formed};
