@@ -1,0 +1,4 @@
+use Rattle.cells.proofs.Cell.admitted.Goals as goal
+
+pub returns : goal.returns
+returns c = cc
