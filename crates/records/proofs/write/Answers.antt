@@ -1,0 +1,29 @@
+use mathlib.Core.Path.{◌≡◌, sym, ap, ◌∙◌}
+use mathlib.Core.Bool.{Bool, true, cond, ◌&&◌}
+use mathlib.Core.List.{List}
+use Prim.Native.Nat.{ℕ, ◌+◌, ◌≤◌}
+use borrow.Author.Tests.{leb-true}
+use lib.ListN.{length}
+use Rattle.laws.proofs.Tests.{and_right}
+use Rattle.fields.specs.Bytes.{put_at}
+use Rattle.fields.proofs.Bytes.{put_lent}
+use Rattle.records.specs.declared.Answer.{Answer}
+use Rattle.records.specs.Format.{wrote, written}
+use Rattle.records.proofs.Fields.{as_written}
+use Rattle.records.proofs.write.Goals as goal
+
+-- what writing gives, by the outcome of the two tests
+gives : (c : goal.After-room) (t : Bool) → (c.args.has && c.room.result) ≡ t →
+    cond t
+    (wrote (Answer.Ok 0) (put_at c.args.bytes.now c.args.at c.args.rec.now))
+    (wrote Answer.Record c.args.bytes.now)
+    ≡ written c.args.has c.args.bytes.now c.args.at c.args.rec.now
+gives c t told = let a = c.args in as_written a.has a.bytes.now a.at a.rec.now c.room.ensures told
+
+pub returns-then-has-room : goal.returns-then-has-room
+returns-then-has-room c =
+    let room : c.args.at + length c.args.rec.now ≤ length c.args.bytes.now = leb-true _ _ (sym c.room.ensures ∙ and_right c.args.has c.room.result c.if-has-room.true) in
+    let a = c.args in
+    ap (λ (l : List ℕ). wrote (Answer.Ok 0) l)
+    (put_lent a.bytes.now a.at a.rec.now c.put.new.s room c.put.ensures.0 c.put.ensures.1)
+    ∙ gives c.before true c.if-has-room.true
