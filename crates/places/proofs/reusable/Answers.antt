@@ -2,91 +2,46 @@
 -- Inner invariant: a place that keeps the cell is one of those yet to be looked at. The tables settle most cells before it.
 -- Assumes nothing.
 use mathlib.Core.Path.{◌≡◌, refl, sym, ap, ◌∙◌}
-use mathlib.Core.Bool.{Bool, true, false, not}
-use Prim.Native.Nat.{◌+◌, ◌-◌}
+use mathlib.Core.Bool.{Bool, true, false}
+use mathlib.Core.List.{List}
+use Prim.Native.Nat.{ℕ, ◌+◌, ◌/◌, ◌<◌}
 use native.Mathlib.Omega.{arith}
 use borrow.Author.Rules.{rules}
-use borrow.Author.Tests.{not-true, not-false}
 use lib.Dec.{ltb}
 use lib.ListN.{length, get_or, drop}
+use Rattle.cells.specs.declared.Cell.{Cell}
 use Rattle.cells.specs.declared.Reader.{Reader}
+use Rattle.cells.specs.Cells.{no_cell, cells_of, empty, committed}
+use Rattle.cells.specs.Rules.{newer, between}
 use Rattle.scans.specs.declared.Found.{Found}
 use Rattle.scans.specs.declared.Tops.{Tops}
-use Rattle.cells.specs.Cells.{cells_of, empty}
 use Rattle.scans.specs.Rules.{lowest_from, has_cell, keeps}
-use Rattle.cells.specs.Rules.{between}
-use Rattle.scans.specs.Tables.{all_tops, outdated_by, surpassed_in, held_in}
+use Rattle.scans.specs.Tables.{all_tops, any_cell, tops_of, outdated_by, surpassed_in, held_in}
 use Rattle.scans.proofs.Scan.{lowest-here, lowest-next, lowest_end}
 use Rattle.scans.proofs.Tables.{tables_tell}
+use Rattle.places.specs.declared.Place.{Place}
 use Rattle.places.specs.Places.{all_places, idle_place, reader_of}
-use Rattle.places.specs.Spent.{has_place, keeps_at, free, reusable}
+use Rattle.places.specs.Spent.{keeps_at, free, reusable}
 use Rattle.places.proofs.Spent.{place_turn, place_end, free_is}
 use Rattle.laws.proofs.Tests.{and_is, and_left, and_right}
 use Rattle.places.proofs.Quick.{none_keep, some_keeps}
 use Rattle.places.proofs.reusable.Goals as goal
 
 -- at a cell that is read: whether it is free settles the turn
-abbrev Looked : Type 0
-Looked = tie.After-cell-at invariant-places decreases-places invariant-cells decreases-cells
+module _ (ws : List ℕ) (ps : List Place) (i : ℕ) (h : i < length ws / 4) (c : Cell) (e : c ≡ get_or (cells_of ws) i no_cell)
+    (left : reusable ps (cells_of ws) ≡ lowest_from i (free ps (cells_of ws)) (drop i (cells_of ws))) where
+  here : free ps (cells_of ws) c ≡ true → Found.At i ≡ reusable ps (cells_of ws)
+  here f = sym (left ∙ lowest-here ws i h (free ps (cells_of ws)) (sym (ap (free ps (cells_of ws)) e) ∙ f))
 
-abbrev begun : Looked → tie.Start invariant-places decreases-places invariant-cells decreases-cells
-begun c = c.before.before.before.before.before.before.before.before.before.before.before
+  next : free ps (cells_of ws) c ≡ false
+      → reusable ps (cells_of ws) ≡ lowest_from (i + 1) (free ps (cells_of ws)) (drop (i + 1) (cells_of ws))
+  next f = left ∙ lowest-next ws i h (free ps (cells_of ws)) (sym (ap (free ps (cells_of ws)) e) ∙ f)
 
--- who reads at the oldest open place
-abbrev oldest_at : Looked → tie.After-oldest-open invariant-places decreases-places invariant-cells decreases-cells
-oldest_at c = c.before.before.before.before.before.before.before.before
-
-abbrev reader_at : Looked → tie.After-reader invariant-places decreases-places invariant-cells decreases-cells
-reader_at c = c.before.before.before.before.before.before
-
-here : (c : Looked)
-    → (let a = (begun c).args in
-    let cs = cells_of a.cells.now in
-    free a.places cs c.Cell-at.result ≡ true → Found.At c.before.before.cells.i ≡ reusable a.places cs)
-here c e =
-    let a = (begun c).args in
-    let l = c.before.before.cells in
-    let f = free a.places (cells_of a.cells.now) in
-    sym (l.invariant.1 ∙ lowest-here a.cells.now l.i (search rules) f (sym (ap f c.Cell-at.ensures) ∙ e))
-
-next : (c : Looked)
-    → (let a = (begun c).args in
-    let cs = cells_of a.cells.now in
-    let i = c.before.before.cells.i in
-    free a.places cs c.Cell-at.result ≡ false
-    → reusable a.places cs ≡ lowest_from (i + 1) (free a.places cs) (drop (i + 1) cs))
-next c e =
-    let a = (begun c).args in
-    let l = c.before.before.cells in
-    let f = free a.places (cells_of a.cells.now) in
-    l.invariant.1 ∙ lowest-next a.cells.now l.i (search rules) f (sym (ap f c.Cell-at.ensures) ∙ e)
-
--- at a cell that is committed and has a newer one: it is free if no place keeps it
-abbrev Old : Type 0
-Old = tie.Else3 invariant-places decreases-places invariant-cells decreases-cells
-
-abbrev read_at : Old → Looked
-read_at c = c.before.before.before.before.before.before.before
-
-abbrev old-at : tie.At-places invariant-places decreases-places invariant-cells decreases-cells → Old
-old-at m = m.before.before.before.before.before.before.before.before
-
-filled : (c : Old) → empty (read_at c).Cell-at.result ≡ false
-filled c = sym c.before.before.before.before.before.before.«empty».ensures ∙ c.before.before.before.before.before.if1.false
-
-kept_or_free : (c : Old) (h : Bool)
-    → (let k = read_at c in
-    let a = (begun k).args in
-    let cs = cells_of a.cells.now in
-    has_place (keeps_at cs k.Cell-at.result) a.places ≡ h → free a.places cs k.Cell-at.result ≡ not h)
-kept_or_free c h e =
-    let k = read_at c in
-    let a = (begun k).args in
-    let cs = cells_of a.cells.now in
-    let x = k.Cell-at.result in
-    let told = ap (λ (t : Tops). outdated_by t.all cs x) k.before.before.before.before.before.tops-of.ensures in
-    let old = sym (tables_tell cs x (filled c)).outdated ∙ sym told ∙ sym c.before.outdated-by.ensures ∙ not-false _ c.if3.false in
-    free_is a.places cs x (filled c) (sym c.before.before.before.before.committed.ensures ∙ not-false _ c.before.before.before.if2.false) old e
+-- what the table of all cells tells of a cell that is not empty
+told_old : (cs : List Cell) (x : Cell) (tops : Tops) (r t : Bool)
+    → tops.all ≡ tops_of any_cell cs → empty x ≡ false → r ≡ outdated_by tops.all cs x → r ≡ t → has_cell (newer x) cs ≡ t
+told_old cs x tops r t made filled e f =
+    sym (tables_tell cs x filled).outdated ∙ sym (ap (λ (all : List ℕ). outdated_by all cs x) made) ∙ sym e ∙ f
 
 pub bounds-places-oldest_open : goal.bounds-places-oldest_open
 bounds-places-oldest_open c =
@@ -99,121 +54,137 @@ cells-init c = (search rules, refl)
 
 pub returns-then-empty : goal.returns-then-empty
 returns-then-empty c =
-    let a = (begun k).args in
+    let a = c.args in
     let e = sym c.«empty».ensures ∙ c.if-empty.true in
-    here k (free_is a.places (cells_of a.cells.now) c.cell_at-c.result e refl refl refl)
+    here a.cells.now a.places c.cells.i (search rules) c.cell_at-c.result c.cell_at-c.ensures c.cells.invariant.1
+    (free_is a.places (cells_of a.cells.now) c.cell_at-c.result e refl refl refl)
 
 pub cells-preserved-then-not-committed : goal.cells-preserved-then-not-committed
 cells-preserved-then-not-committed c =
-    let a = (begun k).args in
+    let a = c.args in
     let e = sym c.«empty».ensures ∙ c.if-empty.false in
-    let f = sym c.committed.ensures ∙ not-true _ c.if-not-committed.true-raw in
-    (search rules, next k (free_is a.places (cells_of a.cells.now) c.cell_at-c.result e f refl refl))
+    let f = sym c.committed.ensures ∙ c.if-not-committed.true in (
+      search rules,
+      next a.cells.now a.places c.cells.i (search rules) c.cell_at-c.result c.cell_at-c.ensures c.cells.invariant.1
+          (free_is a.places (cells_of a.cells.now) c.cell_at-c.result e f refl refl),
+    )
 
 pub cells-preserved-then-not-outdated_by : goal.cells-preserved-then-not-outdated_by
 cells-preserved-then-not-outdated_by c =
-    let a = (begun k).args in
+    let a = c.args in
     let cs = cells_of a.cells.now in
     let x = c.cell_at-c.result in
     let e = sym c.«empty».ensures ∙ c.if-empty.false in
-    let f = sym c.committed.ensures ∙ not-false _ c.if-not-committed.false-raw in
+    let f = sym c.committed.ensures ∙ c.if-not-committed.false in
     let told = ap (λ (t : Tops). outdated_by t.all cs x) c.tops_of-tops.ensures in
-    let g = sym (tables_tell cs x e).outdated ∙ sym told ∙ sym c.outdated_by.ensures ∙ not-true _ c.if-not-outdated_by.true-raw in
-    (search rules, next k (free_is a.places cs x e f g refl))
+    let g = sym (tables_tell cs x e).outdated ∙ sym told ∙ sym c.outdated_by.ensures ∙ c.if-not-outdated_by.true in (
+      search rules,
+      next a.cells.now a.places c.cells.i (search rules) c.cell_at-c.result c.cell_at-c.ensures c.cells.invariant.1
+          (free_is a.places cs x e f g refl),
+    )
 
 pub returns-then-surpassed : goal.returns-then-surpassed
 returns-then-surpassed c =
-    let long : length c.args.places ≡ all_places = search rules in
-    let k = read_at old in
-    let a = (begun k).args in
+    let a = c.args in
     let cs = cells_of a.cells.now in
-    let x = k.Cell-at.result in
-    let o = (oldest_at k).oldest-open in
-    let r = (reader_at k).reader in
-    let h = long (begun k) in
-    let told = ap (λ (t : Tops). surpassed_in t.seen x) k.before.before.before.before.before.tops-of.ensures in
+    let x = c.cell_at-c.result in
+    let filled : empty x ≡ false = sym c.«empty».ensures ∙ c.if-empty.false in
+    let sealed : committed x ≡ true = sym c.committed.ensures ∙ c.if-not-committed.false in
+    let tops = ap (λ (t : Tops). t.all) c.tops_of-tops.ensures in
+    let old = told_old cs x c.tops_of-tops.result c.outdated_by.result true tops filled c.outdated_by.ensures c.if-not-outdated_by.false in
+    let o = c.oldest_open in
+    let h : length a.places ≡ all_places = search rules in
+    let told = ap (λ (t : Tops). surpassed_in t.seen x) c.tops_of-tops.ensures in
+    let r = c.reader-reader in
     let e = sym told ∙ sym c.surpassed.ensures ∙ c.if-surpassed.true in
-    let past = and_right (ltb x.word all_tops) (has_cell (between x r.result) cs) (sym ((tables_tell cs x (filled old)).surpassed r.result) ∙ e) in
-    let seen = ap (λ (q : Reader). has_cell (between x q) cs) (sym r.ensures) ∙ past in
-    here k (kept_or_free old false (none_keep a.places o.result o.ensures h cs x seen))
+    let past = and_right (ltb x.word all_tops) (has_cell (between x r.result) cs) (sym ((tables_tell cs x filled).surpassed r.result) ∙ e) in
+    let past = ap (λ (q : Reader). has_cell (between x q) cs) (sym r.ensures) ∙ past in
+    here a.cells.now a.places c.cells.i (search rules) c.cell_at-c.result c.cell_at-c.ensures c.cells.invariant.1
+    (free_is a.places cs x filled sealed old (none_keep a.places o.result o.ensures h cs x past))
 
 pub cells-preserved-then-is_open-held_by : goal.cells-preserved-then-is_open-held_by
 cells-preserved-then-is_open-held_by c =
-    let long : length c.args.places ≡ all_places = search rules in
-    let k = read_at old in
-    let a = (begun k).args in
+    let a = c.args in
     let cs = cells_of a.cells.now in
-    let x = k.Cell-at.result in
-    let o = (oldest_at k).oldest-open in
-    let r = (reader_at k).reader in
-    let h = long (begun k) in
-    let told = ap (λ (t : Tops). held_in t.seen x r.result) k.before.before.before.before.before.tops-of.ensures in
+    let x = c.cell_at-c.result in
+    let filled : empty x ≡ false = sym c.«empty».ensures ∙ c.if-empty.false in
+    let sealed : committed x ≡ true = sym c.committed.ensures ∙ c.if-not-committed.false in
+    let tops = ap (λ (t : Tops). t.all) c.tops_of-tops.ensures in
+    let old = told_old cs x c.tops_of-tops.result c.outdated_by.result true tops filled c.outdated_by.ensures c.if-not-outdated_by.false in
+    let o = c.oldest_open in
+    let h : length a.places ≡ all_places = search rules in
+    let r = c.reader-reader in
+    let told = ap (λ (t : Tops). held_in t.seen x r.result) c.tops_of-tops.ensures in
     let u = c.is_open in
     let v = c.held_by in
     let e = sym told ∙ sym v.ensures ∙ and_right u.result v.result c.if-is_open-held_by.true in
     let is_open = sym u.ensures ∙ and_left u.result v.result c.if-is_open-held_by.true in
-    let held = and_right (ltb x.word all_tops) (keeps cs x r.result) (sym ((tables_tell cs x (filled old)).held r.result) ∙ e) in
+    let held = and_right (ltb x.word all_tops) (keeps cs x r.result) (sym ((tables_tell cs x filled).held r.result) ∙ e) in
     let held = ap (keeps cs x) (sym r.ensures) ∙ held in
-    let kept = some_keeps a.places o.result o.ensures h cs x is_open held in
-    (search rules, next k (kept_or_free old true kept))
+    let kept = some_keeps a.places o.result o.ensures h cs x is_open held in (
+      search rules,
+      next a.cells.now a.places c.cells.i (search rules) c.cell_at-c.result c.cell_at-c.ensures c.cells.invariant.1
+          (free_is a.places cs x filled sealed old kept),
+    )
 
 pub places-init : goal.places-init
 places-init c = (search rules, refl)
 
 pub places-preserved-then-not-is_open : goal.places-preserved-then-not-is_open
 places-preserved-then-not-is_open c =
-    let long : length c.args.places ≡ all_places = search rules in
-    let k = read_at (old-at m) in
-    let a = (begun k).args in
-    let h = long (begun k) in
-    let q = keeps_at (cells_of a.cells.now) k.Cell-at.result in
-    let e = sym c.is_open-in-places.ensures ∙ not-true _ c.if-not-is_open.true-raw in
+    let a = c.args in
+    let h : length a.places ≡ all_places = search rules in
+    let q = keeps_at (cells_of a.cells.now) c.cell_at-c.result in
+    let e = sym c.is_open-in-places.ensures ∙ c.if-not-is_open.true in
     (search rules, c.places.invariant.1 ∙ place_turn q a.places c.places.j (omega arith) (and_is e refl))
 
 -- whether the place's reader keeps the cell
-kept-told : (c : goal.After-reader) {r t : Bool}
-    → (
-    let k = read_at (old-at m) in
-    let a = (begun k).args in
-    let cs = cells_of a.cells.now in
-    r ≡ keeps cs k.Cell-at.result c.reader.result → r ≡ t
-    → keeps cs k.Cell-at.result (reader_of (get_or a.places c.places.j idle_place)) ≡ t)
-kept-told c e f =
-    let k = read_at (old-at c.before) in
-    ap (keeps (cells_of (begun k).args.cells.now) k.Cell-at.result) (sym c.reader.ensures) ∙ sym e ∙ f
+kept_told : (cs : List Cell) (x : Cell) (p : Place) (r : Reader) {k t : Bool} → r ≡ reader_of p → k ≡ keeps cs x r → k ≡ t
+    → keeps cs x (reader_of p) ≡ t
+kept_told cs x p r made e f = ap (keeps cs x) (sym made) ∙ sym e ∙ f
 
 pub cells-preserved : goal.cells-preserved
 cells-preserved c =
-    let long : length c.args.places ≡ all_places = search rules in
-    let k = read_at (old-at m) in
-    let a = (begun k).args in
-    let h = long (begun k) in
-    let q = keeps_at (cells_of a.cells.now) k.Cell-at.result in
-    let is_open = sym c.is_open-in-places.ensures ∙ not-false _ c.if-not-is_open.false-raw in
-    let e = and_is is_open (kept-told c.before c.kept.ensures c.if-kept.true) in
-    let f = c.places.invariant.1 ∙ place_turn q a.places c.places.j (omega arith) e in
-    (search rules, next k (kept_or_free (old-at m) true f))
+    let a = c.args in
+    let cs = cells_of a.cells.now in
+    let x = c.cell_at-c.result in
+    let filled : empty x ≡ false = sym c.«empty».ensures ∙ c.if-empty.false in
+    let sealed : committed x ≡ true = sym c.committed.ensures ∙ c.if-not-committed.false in
+    let tops = ap (λ (t : Tops). t.all) c.tops_of-tops.ensures in
+    let old = told_old cs x c.tops_of-tops.result c.outdated_by.result true tops filled c.outdated_by.ensures c.if-not-outdated_by.false in
+    let h : length a.places ≡ all_places = search rules in
+    let q = keeps_at (cells_of a.cells.now) c.cell_at-c.result in
+    let is_open = sym c.is_open-in-places.ensures ∙ c.if-not-is_open.false in
+    let e = and_is is_open (kept_told (cells_of a.cells.now) c.cell_at-c.result (get_or a.places c.places.j idle_place) c.reader.result c.reader.ensures c.kept.ensures c.if-kept.true) in
+    let f = c.places.invariant.1 ∙ place_turn q a.places c.places.j (omega arith) e in (
+      search rules,
+      next a.cells.now a.places c.cells.i (search rules) c.cell_at-c.result c.cell_at-c.ensures c.cells.invariant.1
+          (free_is a.places cs x filled sealed old f),
+    )
 
 pub places-preserved : goal.places-preserved
 places-preserved c =
-    let long : length c.args.places ≡ all_places = search rules in
-    let k = read_at (old-at m) in
-    let a = (begun k).args in
-    let h = long (begun k) in
-    let q = keeps_at (cells_of a.cells.now) k.Cell-at.result in
-    let is_open = sym c.is_open-in-places.ensures ∙ not-false _ c.if-not-is_open.false-raw in
-    let e = and_is is_open (kept-told c.before c.kept.ensures c.if-kept.false) in
+    let a = c.args in
+    let h : length a.places ≡ all_places = search rules in
+    let q = keeps_at (cells_of a.cells.now) c.cell_at-c.result in
+    let is_open = sym c.is_open-in-places.ensures ∙ c.if-not-is_open.false in
+    let e = and_is is_open (kept_told (cells_of a.cells.now) c.cell_at-c.result (get_or a.places c.places.j idle_place) c.reader.result c.reader.ensures c.kept.ensures c.if-kept.false) in
     (search rules, c.places.invariant.1 ∙ place_turn q a.places c.places.j (omega arith) e)
 
 pub returns-in-cells : goal.returns-in-cells
 returns-in-cells c =
-    let long : length c.args.places ≡ all_places = search rules in
-    let k = read_at (old-at m) in
-    let a = (begun k).args in
-    let h = long (begun k) in
-    let q = keeps_at (cells_of a.cells.now) k.Cell-at.result in
+    let a = c.args in
+    let cs = cells_of a.cells.now in
+    let x = c.cell_at-c.result in
+    let filled : empty x ≡ false = sym c.«empty».ensures ∙ c.if-empty.false in
+    let sealed : committed x ≡ true = sym c.committed.ensures ∙ c.if-not-committed.false in
+    let tops = ap (λ (t : Tops). t.all) c.tops_of-tops.ensures in
+    let old = told_old cs x c.tops_of-tops.result c.outdated_by.result true tops filled c.outdated_by.ensures c.if-not-outdated_by.false in
+    let h : length a.places ≡ all_places = search rules in
+    let q = keeps_at (cells_of a.cells.now) c.cell_at-c.result in
     let none = c.places.invariant.1 ∙ place_end q a.places c.places.j (omega arith) in
-    here k (kept_or_free (old-at m) false none)
+    here a.cells.now a.places c.cells.i (search rules) c.cell_at-c.result c.cell_at-c.ensures c.cells.invariant.1
+    (free_is a.places cs x filled sealed old none)
 
 pub returns : goal.returns
 returns c =
