@@ -1,0 +1,22 @@
+-- `Board::read` meets its contract.
+-- Assumes nothing.
+use mathlib.Core.Path.{ap}
+use Rattle.records.specs.declared.Call.{Call}
+use Rattle.records.specs.declared.Answer.{Answer}
+use Rattle.steps.specs.Store.{lent, answered}
+use Rattle.steps.proofs.Checks.{Passed, passed, refused, handed}
+use Rattle.steps.proofs.Board.read.Goals as goal
+
+pub returns-in-Refused : goal.returns-in-Refused
+returns-in-Refused c =
+    let a = c.args in
+    refused (lent a.self a.cells.now) (Call.Read a.place a.key)
+    c.admit.ensures c.in-Refused.is c.with.ensures
+
+pub returns-in-At : goal.returns-in-At
+returns-in-At c =
+    let go : (let a = c.args in
+    Passed (lent a.self a.cells.now) (Call.Read a.place a.key) c.in-At.at) = passed _ _ c.admit.ensures c.in-At.is in
+    let a = c.args in
+    let st = lent a.self a.cells.now in
+    go.is (handed c.with-in-At.ensures (ap (λ (x : Answer). answered x st) c.shown-shown.ensures))

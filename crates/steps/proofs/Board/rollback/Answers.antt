@@ -1,0 +1,20 @@
+-- `Board::rollback` meets its contract.
+-- Assumes nothing.
+use mathlib.Core.Path.{ap}
+use Rattle.records.specs.declared.Call.{Call}
+use Rattle.records.specs.declared.Answer.{Answer}
+use Rattle.steps.specs.Store.{Store, lent, answered}
+use Rattle.steps.proofs.Checks.{Passed, passed, refused, handed}
+use Rattle.steps.proofs.Board.rollback.Goals as goal
+
+pub returns-in-Refused : goal.returns-in-Refused
+returns-in-Refused c =
+    let a = c.args in
+    refused (lent a.self a.cells.now) (Call.Rollback a.place)
+    c.admit.ensures c.in-Refused.is c.with.ensures
+
+pub returns-in-At : goal.returns-in-At
+returns-in-At c =
+    let go : (let a = c.args in
+    Passed (lent a.self a.cells.now) (Call.Rollback a.place) c.in-At.at) = passed _ _ c.admit.ensures c.in-At.is in
+    go.is (handed c.with-in-At.ensures (ap (λ (st : Store). answered (Answer.Ok 0) st) c.closed.ensures))

@@ -1,0 +1,18 @@
+-- `Board::update` meets its contract.
+-- Assumes nothing.
+use Rattle.records.specs.declared.Call.{Call}
+use Rattle.steps.specs.Store.{lent}
+use Rattle.steps.proofs.Checks.{Passed, passed, refused}
+use Rattle.steps.proofs.Board.update.Goals as goal
+
+pub returns-in-Refused : goal.returns-in-Refused
+returns-in-Refused c =
+    let a = c.args in
+    refused (lent a.self a.cells.now) (Call.Update a.place a.key a.value)
+    c.admit.ensures c.in-Refused.is c.with.ensures
+
+pub returns-in-At : goal.returns-in-At
+returns-in-At c =
+    let go : (let a = c.args in
+    Passed (lent a.self a.cells.now) (Call.Update a.place a.key a.value) c.in-At.at) = passed _ _ c.admit.ensures c.in-At.is in
+    go.is c.updated.ensures
