@@ -1,12 +1,28 @@
 -- `Board::commit` meets its contract.
 -- Assumes nothing.
 use Prim.Native.Nat.{◌+◌}
+use native.Mathlib.Omega.{arith}
 use Rattle.records.specs.declared.Call.{Call}
 use Rattle.records.specs.declared.Answer.{Answer}
 use Rattle.steps.specs.Record.{with_place, with_counts}
 use Rattle.steps.specs.Store.{lent, answered}
 use Rattle.steps.proofs.Checks.{Passed, passed, refused, handed}
 use Rattle.steps.proofs.Board.commit.Goals as goal
+
+pub bounds-self-at : goal.bounds-self-at
+bounds-self-at c =
+    let go : Passed (lent c.args.self c.args.cells.now) (Call.Commit c.args.place) c.in-At.at = passed _ _ c.admit.ensures c.in-At.is in
+    go.below
+
+pub overflow_add-commit : goal.overflow_add-commit
+overflow_add-commit c =
+    let go : Passed (lent c.args.self c.args.cells.now) (Call.Commit c.args.place) c.in-At.at = passed _ _ c.admit.ensures c.in-At.is in
+    omega (arith, go.commits)
+
+pub bounds-self-at-in-At : goal.bounds-self-at-in-At
+bounds-self-at-in-At c =
+    let go : Passed (lent c.args.self c.args.cells.now) (Call.Commit c.args.place) c.in-At.at = passed _ _ c.admit.ensures c.in-At.is in
+    go.below
 
 pub returns-in-Refused : goal.returns-in-Refused
 returns-in-Refused c =

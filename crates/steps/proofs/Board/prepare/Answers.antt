@@ -7,6 +7,16 @@ use Rattle.steps.specs.Store.{lent, answered}
 use Rattle.steps.proofs.Checks.{Passed, passed, refused, handed}
 use Rattle.steps.proofs.Board.prepare.Goals as goal
 
+pub bounds-self-at : goal.bounds-self-at
+bounds-self-at c =
+    let go : Passed (lent c.args.self c.args.cells.now) (Call.Prepare c.args.place) c.in-At.at = passed _ _ c.admit.ensures c.in-At.is in
+    go.below
+
+pub bounds-self-at-in-At : goal.bounds-self-at-in-At
+bounds-self-at-in-At c =
+    let go : Passed (lent c.args.self c.args.cells.now) (Call.Prepare c.args.place) c.in-At.at = passed _ _ c.admit.ensures c.in-At.is in
+    go.below
+
 pub returns-in-Refused : goal.returns-in-Refused
 returns-in-Refused c =
     let a = c.args in

@@ -7,6 +7,11 @@ use Rattle.steps.specs.Store.{lent, answered}
 use Rattle.steps.proofs.Checks.{Passed, passed, refused, handed}
 use Rattle.steps.proofs.Board.read.Goals as goal
 
+pub shown-shown-requires : goal.shown-shown-requires
+shown-shown-requires c =
+    let go : Passed (lent c.args.self c.args.cells.now) (Call.Read c.args.place c.args.key) c.in-At.at = passed _ _ c.admit.ensures c.in-At.is in
+    go.below
+
 pub returns-in-Refused : goal.returns-in-Refused
 returns-in-Refused c =
     let a = c.args in

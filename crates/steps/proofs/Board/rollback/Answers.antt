@@ -7,6 +7,11 @@ use Rattle.steps.specs.Store.{Store, lent, answered}
 use Rattle.steps.proofs.Checks.{Passed, passed, refused, handed}
 use Rattle.steps.proofs.Board.rollback.Goals as goal
 
+pub closed-requires : goal.closed-requires
+closed-requires c =
+    let go : Passed (lent c.args.self c.args.cells.now) (Call.Rollback c.args.place) c.in-At.at = passed _ _ c.admit.ensures c.in-At.is in
+    go.below
+
 pub returns-in-Refused : goal.returns-in-Refused
 returns-in-Refused c =
     let a = c.args in

@@ -1,12 +1,23 @@
 -- `Board::start` meets its contract.
 -- Assumes nothing.
 use Prim.Native.Nat.{◌+◌}
+use native.Mathlib.Omega.{arith}
 use Rattle.records.specs.declared.Call.{Call}
 use Rattle.records.specs.declared.Answer.{Answer}
 use Rattle.steps.specs.Record.{with_place, with_counts}
 use Rattle.steps.specs.Store.{lent, answered}
 use Rattle.steps.proofs.Checks.{Passed, passed, refused, handed}
 use Rattle.steps.proofs.Board.start.Goals as goal
+
+pub overflow_add-next : goal.overflow_add-next
+overflow_add-next c =
+    let go : Passed (lent c.args.self c.args.cells.now) (Call.Start c.args.place) c.in-At.at = passed _ _ c.admit.ensures c.in-At.is in
+    omega (arith, go.starts)
+
+pub bounds-self-at : goal.bounds-self-at
+bounds-self-at c =
+    let go : Passed (lent c.args.self c.args.cells.now) (Call.Start c.args.place) c.in-At.at = passed _ _ c.admit.ensures c.in-At.is in
+    go.below
 
 pub returns-in-Refused : goal.returns-in-Refused
 returns-in-Refused c =

@@ -5,6 +5,11 @@ use Rattle.steps.specs.Store.{lent}
 use Rattle.steps.proofs.Checks.{Passed, passed, refused}
 use Rattle.steps.proofs.Board.update.Goals as goal
 
+pub updated-requires : goal.updated-requires
+updated-requires c =
+    let go : Passed (lent c.args.self c.args.cells.now) (Call.Update c.args.place c.args.key c.args.value) c.in-At.at = passed _ _ c.admit.ensures c.in-At.is in
+    (go.below, go.keyed)
+
 pub returns-in-Refused : goal.returns-in-Refused
 returns-in-Refused c =
     let a = c.args in
