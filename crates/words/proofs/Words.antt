@@ -1,7 +1,7 @@
 -- Words and records: what stands where, and that words and records are each other's inverse.
 --     state-.., word_state              a state and its word
 --     wide, place_words_lem, words_place    a place and its words
---     length_places, place_at           the places that words are
+--     length_places, place_at_lem       the places that words are
 --     span, length_at                   the words that the code takes for a place
 --     save-turn, save-end               a turn, and the end, of writing a record
 --     numbers                           theorem: where the counts stand, and how many words there are, as lane.h has it
@@ -90,9 +90,9 @@ unfolding places_of
 length_places ws = length-map (place_blocks ws) place_of_words ∙ length_blocks place_words all_places ws
 
 -- which place i is
-pub place_at : (ws : List ℕ) (i : ℕ) → i < all_places → get_or (places_of ws) i idle_place ≡ place_of_words (words_at ws i)
+pub place_at_lem : (ws : List ℕ) (i : ℕ) → i < all_places → get_or (places_of ws) i idle_place ≡ place_of_words (words_at ws i)
 unfolding places_of
-place_at ws i h = get_or-map place_of_words (place_blocks ws) i [] ∙ ap place_of_words (block_at place_words all_places i ws [] h)
+place_at_lem ws i h = get_or-map place_of_words (place_blocks ws) i [] ∙ ap place_of_words (block_at place_words all_places i ws [] h)
 
 -- a word that is read as open is 1
 open_state : (n : ℕ) → state_of n ≡ State.Open → n ≡ state_word State.Open
@@ -120,7 +120,7 @@ pub open_word : (ws : List ℕ) (i : ℕ) → (get_or (places_of ws) i idle_plac
 open_word ws i e =
     let h : i < all_places = omega (arith, open_inside (places_of ws) i e, length_places ws) in
     sym (first_word ws i)
-    ∙ open_state (get_or (words_at ws i) 0 0) (sym (ap (λ (p : Place). p.state) (place_at ws i h)) ∙ e)
+    ∙ open_state (get_or (words_at ws i) 0 0) (sym (ap (λ (p : Place). p.state) (place_at_lem ws i h)) ∙ e)
 
 -- a word set behind a list
 set_behind : (a l : List ℕ) (n x : ℕ) → set (a ++ l) (length a + n) x ≡ a ++ set l n x

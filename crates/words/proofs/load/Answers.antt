@@ -8,8 +8,11 @@ use Rattle.steps.specs.declared.Board.{Board}
 use Rattle.places.specs.Places.{idle_place}
 use Rattle.words.specs.Words.{place_of_words, places_of, record_of}
 use Rattle.laws.proofs.Blocks.{take_next, take_whole}
-use Rattle.words.proofs.Words.{length_places, place_at, loaded-all}
+use Rattle.words.proofs.Words.{length_places, place_at_lem, loaded-all, loaded-none}
 use Rattle.words.proofs.load.Goals as goal
+
+pub returns-then-words-ne-WORDS : goal.returns-then-words-ne-WORDS
+returns-then-words-ne-WORDS c = c.fresh-fresh.ensures ∙ sym (loaded-none _ c.if-words-ne-WORDS.true)
 
 pub loop-i-init : goal.loop-i-init
 loop-i-init c = (search rules, (ap (λ (b : Board). length b.places) c.fresh-fresh.ensures, refl))
@@ -22,7 +25,7 @@ loop-i-preserved c =
       (
         search rules,
         take_next c.loop-i.places (places_of ws) i _ idle_place (search rules) (omega (arith, length_places ws)) c.loop-i.invariant.1.1
-            (c.place_of.ensures ∙ ap place_of_words c.words_at.ensures.0 ∙ sym (place_at ws i (search rules))),
+            (c.place_of.ensures ∙ ap place_of_words c.words_at.ensures.0 ∙ sym (place_at_lem ws i (search rules))),
       ),
     )
 

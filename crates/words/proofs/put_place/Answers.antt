@@ -7,4 +7,4 @@ use Rattle.words.proofs.put_place.Goals as goal
 pub returns : goal.returns
 returns c =
     let a = c.args in
-    rw c.state_word_lem.ensures (stores_last (words_of_place a.p) a.block.now 0 (search rules))
+    rw c.state_word.ensures (stores_last (words_of_place a.p) a.block.now 0 (search rules))

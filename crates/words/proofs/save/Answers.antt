@@ -7,8 +7,11 @@ use native.Mathlib.Omega.{arith}
 use lib.ListN.{length, length-set}
 use Rattle.laws.proofs.Lists.{long}
 use Rattle.words.specs.Words.{words_of_places}
-use Rattle.words.proofs.Words.{span, length_at, save-turn, save-end, saved-all}
+use Rattle.words.proofs.Words.{span, length_at, save-turn, save-end, saved-all, saved-none}
 use Rattle.words.proofs.save.Goals as goal
+
+pub returns-then-words-ne-WORDS : goal.returns-then-words-ne-WORDS
+returns-then-words-ne-WORDS c = sym (saved-none _ c.if-words-ne-WORDS.true _)
 
 pub loop-i-init : goal.loop-i-init
 unfolding words_of_places flat_map

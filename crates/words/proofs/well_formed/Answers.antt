@@ -1,12 +1,13 @@
 -- `words::well_formed` meets its contract. The invariant: the answer is what the places left say. Assumes nothing.
 use borrow.Author.Rules.{rules}
-use borrow.Author.Tests.{eq-eqb, ne_eqb, not-false}
+use borrow.Author.Tests.{eq-eqb, ne_eqb}
 use mathlib.Core.Path.{◌≡◌, sym, ap, ◌∙◌}
 use mathlib.Core.Bool.{Bool, ◌&&◌}
-use Prim.Native.Nat.{◌+◌, ◌-◌}
+use mathlib.Core.List.{List}
+use Prim.Native.Nat.{ℕ, ◌+◌, ◌<◌}
 use lib.ListN.{drop}
 use Rattle.places.specs.Places.{all_places}
-use Rattle.words.specs.Words.{place_words, place_fits, place_blocks, well_formed}
+use Rattle.words.specs.Words.{place_words, place_fits, words_at, place_blocks, well_formed}
 use Rattle.laws.specs.Blocks.{each}
 use Rattle.laws.proofs.Blocks.{each_left, each_none}
 use Rattle.words.proofs.well_formed.Goals as goal
@@ -20,17 +21,25 @@ unfolding well_formed
 loop-i-init c = (search rules, (c.if-words-ne-WORDS.false, simp (eq-eqb _ _ c.if-words-ne-WORDS.false)))
 
 -- the answer by the place that a turn looks at
-turn : (c : goal.After-place_fits) {t : Bool} → c.place_fits_lem.result ≡ t
-    → well_formed c.args.words.now
-    ≡ (t && each place_fits (drop (c.loop-i.i + 1) (place_blocks c.args.words.now)))
-turn c e =
-    c.loop-i.invariant.1.1
-    ∙ each_left place_words place_fits all_places c.args.words.now c.loop-i.i (search rules)
-    (ap place_fits (sym c.words_at.ensures.0) ∙ sym c.place_fits_lem.ensures ∙ e)
+turn : (ws : List ℕ) (i : ℕ) {r t : Bool} → i < all_places → well_formed ws ≡ each place_fits (drop i (place_blocks ws))
+    → r ≡ place_fits (words_at ws i) → r ≡ t → well_formed ws ≡ (t && each place_fits (drop (i + 1) (place_blocks ws)))
+turn ws i h left fits e =
+    left ∙ each_left place_words place_fits all_places ws i h (sym fits ∙ e)
+
+pub returns-then-not-place_fits : goal.returns-then-not-place_fits
+returns-then-not-place_fits c =
+    let fits = c.place_fits.ensures ∙ ap place_fits c.words_at.ensures.0 in
+    sym (turn c.args.words.now c.loop-i.i (search rules) c.loop-i.invariant.1.1 fits c.if-not-place_fits.true)
 
 pub loop-i-preserved : goal.loop-i-preserved
 loop-i-preserved c =
-    (search rules, (c.loop-i.invariant.1.0, turn c.before (not-false _ c.if-not-place_fits.false-raw)))
+    let fits = c.place_fits.ensures ∙ ap place_fits c.words_at.ensures.0 in (
+      search rules,
+      (
+        c.loop-i.invariant.1.0,
+        turn c.args.words.now c.loop-i.i (search rules) c.loop-i.invariant.1.1 fits c.if-not-place_fits.false,
+      ),
+    )
 
 pub returns : goal.returns
 returns c =

@@ -1,0 +1,84 @@
+-- `serve` meets its contract. The loop's invariant: what serving it all comes to is what is left to serve from here (`Rest`).
+-- The measure is the number of records that are left. Assumes nothing.
+use mathlib.Core.Path.{◌≡◌, sym, ap, ◌∙◌}
+use Prim.Native.Nat.{ℕ, ◌+◌, ◌*◌, ◌-◌, ◌≤◌, ◌<◌}
+use native.Mathlib.Nat.{sub-zero}
+use native.Mathlib.Omega.{arith}
+use borrow.Author.Rules.{rules}
+use borrow.Author.Tests.{not-true, not-false}
+use lib.ListN.{length}
+use Rattle.records.specs.Format.{call_bytes, answer_bytes}
+use Rattle.steps.specs.Store.{lent}
+use Rattle.lanes.specs.declared.Stop.{Stop}
+use Rattle.lanes.specs.Serve.{serve_into}
+use Rattle.lanes.proofs.Rest.{rest, last_stop, rest_whole, rest_none, turn_good, turn_bad}
+use Rattle.lanes.proofs.serve.Goals as goal
+
+pub loop-i-init : goal.loop-i-init
+loop-i-init c =
+    let s = c.args in
+    let last : Stop = last_stop s.calls.now c.least-records.result in (
+      search rules,
+      search rules,
+      search rules,
+      ap (λ (n : ℕ). rest n 0 last (lent s.board s.cells.now) s.calls.now s.answers.now) (sym (sub-zero c.least-records.result)),
+    )
+
+pub returns-then-not-t : goal.returns-then-not-t
+returns-then-not-t c =
+    let whole_is : let s = c.args in
+    serve_into (lent s.board s.cells.now) s.calls.now s.answers.now
+    ≡ rest c.least-records.result 0 (last_stop s.calls.now c.least-records.result) (lent s.board s.cells.now) s.calls.now
+    s.answers.now = let s = c.args in
+    rest_whole (lent s.board s.cells.now) s.calls.now s.answers.now
+    ∙ ap (λ (n : ℕ). rest n 0 (last_stop s.calls.now n) (lent s.board s.cells.now) s.calls.now s.answers.now)
+    (sym c.least-records.ensures) in
+    let s = c.args in
+    let n : ℕ = c.least-records.result in
+    let here : c.loop-i.i < n = omega arith in
+    sym (whole_is
+    ∙ c.loop-i.invariant.3
+    ∙ turn_bad n c.loop-i.i here (last_stop s.calls.now n) (lent c.loop-i.next c.loop-i.cells) s.calls.now c.loop-i.answers
+    c.answer_at-t.result c.answer_at-t.new.cells c.answer_at-t.new.answers c.answer_at-t.ensures
+    (not-true c.answer_at-t.result.good c.if-not-t.true))
+
+pub loop-i-preserved : goal.loop-i-preserved
+loop-i-preserved c =
+    let s = c.args in
+    let n : ℕ = c.least-records.result in
+    let here : c.loop-i.i < n = omega arith in
+    let room : answer_bytes * c.loop-i.i + answer_bytes ≤ length c.loop-i.answers = omega arith in (
+      search rules,
+      search rules,
+      search rules,
+      c.loop-i.invariant.3
+          ∙ turn_good n c.loop-i.i here (last_stop s.calls.now n) (lent c.loop-i.next c.loop-i.cells) s.calls.now c.loop-i.answers
+          c.answer_at-t.result c.answer_at-t.new.cells c.answer_at-t.new.answers c.answer_at-t.ensures
+          room (not-false c.answer_at-t.result.good c.if-not-t.false),
+    )
+
+pub returns : goal.returns
+returns c =
+    let whole_is : let s = c.args in
+    serve_into (lent s.board s.cells.now) s.calls.now s.answers.now
+    ≡ rest c.least-records.result 0 (last_stop s.calls.now c.least-records.result) (lent s.board s.cells.now) s.calls.now
+    s.answers.now = let s = c.args in
+    rest_whole (lent s.board s.cells.now) s.calls.now s.answers.now
+    ∙ ap (λ (n : ℕ). rest n 0 (last_stop s.calls.now n) (lent s.board s.cells.now) s.calls.now s.answers.now)
+    (sym c.least-records.ensures) in
+    let s = c.args in
+    let n : ℕ = c.least-records.result in
+    let last : Stop = last_stop s.calls.now n in
+    let done : c.loop-i.i ≡ n = omega arith in
+    let none : n - c.loop-i.i ≡ 0 = omega arith in
+    sym (whole_is
+    ∙ c.loop-i.invariant.3
+    ∙ (λ i. rest (none i) (done i) last (lent c.loop-i.next c.loop-i.cells) s.calls.now c.loop-i.answers)
+    ∙ rest_none n last (lent c.loop-i.next c.loop-i.cells) s.calls.now c.loop-i.answers
+    ∙ ap (λ (stop : Stop). record {
+      store = lent c.loop-i.next c.loop-i.cells;
+      answers = c.loop-i.answers;
+      taken = call_bytes * n;
+      written = answer_bytes * n;
+      stop = stop;
+    }) (sym c.last_stop.ensures))
