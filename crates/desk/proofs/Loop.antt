@@ -3,22 +3,15 @@
 use mathlib.Core.Path.{◌≡◌, refl, sym, ap, ◌∙◌, subst}
 use mathlib.Core.Bool.{Bool, true, false, not, ◌&&◌, ◌||◌, false≢true, true≢false}
 use mathlib.Core.List.{List, [], ◌++◌}
-use Prim.Native.Nat.{ℕ, zero, suc, ◌≤◌, ◌<◌}
+use Prim.Native.Nat.{ℕ, zero, suc}
 use native.Mathlib.Omega.{arith}
-use borrow.Author.Tests.{eqb-false}
 use lib.Dec.{eqb}
-use lib.ListN.{length, take}
-use lib.Seq.{length-take-le, take_at}
 use Rattle.turns.specs.declared.Turned.{Turned}
 use Rattle.turns.specs.Desk.{desk_words, fresh_desk, TurnedIn, turned_in, Lent, turn_after, Keeps, brought, sent_by, left_by, Turns}
 use Rattle.turns.proofs.Sends.{turns}
 use Rattle.desk.specs.Loop.{Ran}
 
--- what a read puts behind the bytes that are left keeps them
-pub kept : (left : ℕ) (bytes more : List ℕ) → left ≤ length bytes → take left (take left bytes ++ more) ≡ take left bytes
-kept left bytes more h = take_at (take left bytes) more left (length-take-le left bytes h)
-
--- the loop goes on only where there is more to do and turns are left
+-- the loop goes on only where there is more to do
 module _ (r : Bool) (turns : ℕ) (h : (not r || eqb turns 0) ≡ false) where
   went : r ≡ true
   went = go r h
@@ -26,11 +19,6 @@ module _ (r : Bool) (turns : ℕ) (h : (not r || eqb turns 0) ≡ false) where
       go : (t : Bool) → (not t || eqb turns 0) ≡ false → t ≡ true
       go true e = refl
       go false e = absurd (true≢false e)
-
-  pub turns_left : 0 < turns
-  turns_left =
-      let some : eqb turns 0 ≡ false = sym (ap (λ (t : Bool). not t || eqb turns 0) went) ∙ h in
-      omega (arith, eqb-false turns 0 some)
 
   pub more_to_do : (more sent : Bool) → r ≡ (more && sent) → more ≡ true
   more_to_do more sent e = go more (sym e ∙ went)

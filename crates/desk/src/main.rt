@@ -6,23 +6,23 @@ ghost use Rattle.std.specs.Prelude.{◌≡◌, take};
 ghost use Rattle.turns.specs.Desk.{desk_words};
 ghost use Rattle.desk.specs.Loop.{Ran};
 
+use std::io::{Read, Stdin, Stdout, Write};
 use turns::Desk;
 
-// Reads once, behind the bytes that are left, and says how many bytes came: none at the end of the input.
-fn receive(bytes: &mut [u8], left: usize) -> usize
+// Reads once, behind the bytes that are left, and says how many bytes came: none at the end of the input, or where the read fails.
+fn receive(stdin: &mut Stdin, bytes: &mut [u8], left: usize) -> usize
     ensures { take left bytes.new ≡ take left bytes.old }
 {
     if bytes.len() <= left {
         return 0;
     }
-    let got = libc::read(libc::STDIN_FILENO, &mut bytes[left..]);
-    io::count(got, bytes)
+    stdin.read(&mut bytes[left..]).unwrap_or(0)
 }
 
 // Writes the first bytes of the answers, and says whether they all went out.
-fn send(answers: &[u8], written: usize) -> bool {
+fn send(stdout: &mut Stdout, answers: &[u8], written: usize) -> bool {
     if written <= answers.len() {
-        io::write_all(libc::STDOUT_FILENO, &answers[..written])
+        stdout.write_all(&answers[..written]).is_ok()
     } else {
         false
     }
@@ -31,6 +31,8 @@ fn send(answers: &[u8], written: usize) -> bool {
 // Turn after turn: a read, the answers to the whole records that there are then, and a write. It stops at the end of the input, at
 // bytes that are no call, or where a write fails. No input outlasts the count of turns.
 fn run(
+    stdin: &mut Stdin,
+    stdout: &mut Stdout,
     cells: &mut [u32; Desk::WORDS],
     bytes: &mut [u8; Desk::INPUT],
     answers: &mut [u8; Desk::OUTPUT],
@@ -41,9 +43,9 @@ fn run(
     let mut desk = Desk::fresh();
     let mut turns = u64::MAX;
     loop {
-        let got = receive(bytes, desk.left);
+        let got = receive(stdin, bytes, desk.left);
         let t = desk.turn(cells, bytes, got, answers);
-        let sent = send(answers, t.written);
+        let sent = send(stdout, answers, t.written);
         if !t.goes_on(sent) | (turns == 0) {
             return;
         }
@@ -52,9 +54,17 @@ fn run(
     }
 }
 
-fn main() {
+fn main(rt: HostRuntime) {
+    let mut stdin = rt.stdin();
+    let mut stdout = rt.stdout();
     let mut cells = Desk::words();
     let mut bytes = [0u8; Desk::INPUT];
     let mut answers = [0u8; Desk::OUTPUT];
-    run(&mut cells, &mut bytes, &mut answers);
+    run(
+        &mut stdin,
+        &mut stdout,
+        &mut cells,
+        &mut bytes,
+        &mut answers,
+    );
 }

@@ -37,7 +37,8 @@ use Rattle.history.proofs.Link.{busy, wrote, Live, Linked, writer_busy, same_pla
 same_newest : (p q : Cell → Bool) (best : Cell) (cs : List Cell) → ((i : ℕ) → p (cell_at cs i) ≡ q (cell_at cs i)) → newest p best cs ≡ newest q best cs
 unfolding newest
 same_newest p q best [] e = refl
-same_newest p q best (c ∷ cs) e = rw (e 0) (same_newest p q _ cs (λ i. e (suc i)))
+same_newest p q best (c ∷ cs) e =
+    rw (e 0) (same_newest p q (pick_cell (q c && ltb best.commit c.commit) c best) cs (λ i. e (suc i)))
 
 module _ {b : Board} {cs : List Cell} {L : Ledger} (𝓛 : Linked b cs L) where
   -- WHAT A LIVE VIEW READS IS WHAT THE FIRST w COMMITTED LEAVE

@@ -395,14 +395,14 @@ struct Run {
     wrong: u32,
 }
 
-fn main() {
+fn main(rt: HostRuntime) {
     let mut words = [0u32; 4100];
     let mut others = [0u32; 4100];
-    run_all(&mut words, &mut others);
+    run_all(&rt, &mut words, &mut others);
 }
 
 // Every situation, then how many checks there were and how many were wrong.
-fn run_all(words: &mut [u32], others: &mut [u32]) {
+fn run_all(rt: &impl Print, words: &mut [u32], others: &mut [u32]) {
     let mut at = Run {
         board: Board::fresh(),
         served: Board::fresh(),
@@ -413,12 +413,12 @@ fn run_all(words: &mut [u32], others: &mut [u32]) {
         wrong: 0,
     };
     for i in 0..20 {
-        at = rows(at, table(i), words, others);
+        at = rows(rt, at, table(i), words, others);
     }
-    number(at.checks);
-    say(b" checks, ");
-    number(at.wrong);
-    say(b" wrong\n");
+    number(rt, at.checks);
+    say(rt, b" checks, ");
+    number(rt, at.wrong);
+    say(rt, b" wrong\n");
 }
 
 // The tables in their order.
@@ -448,65 +448,71 @@ fn table(i: usize) -> [Row; 12] {
 }
 
 // The rows of a table.
-fn rows(before: Run, table: [Row; 12], words: &mut [u32], others: &mut [u32]) -> Run {
+fn rows(
+    rt: &impl Print,
+    before: Run,
+    table: [Row; 12],
+    words: &mut [u32],
+    others: &mut [u32],
+) -> Run {
     let mut at = before;
     for i in 0..12 {
         let row = table[i];
-        at = done(at, row, words, others);
+        at = done(rt, at, row, words, others);
     }
     at
 }
 
 // One row.
-fn done(at: Run, row: Row, words: &mut [u32], others: &mut [u32]) -> Run {
+fn done(rt: &impl Print, at: Run, row: Row, words: &mut [u32], others: &mut [u32]) -> Run {
     let kind = row.0;
     if kind == CASE {
         clear(words);
         clear(others);
-        return begun(at, row);
+        return begun(rt, at, row);
     }
     if kind == GOES_ON {
-        return gone_on(at, row);
+        return gone_on(rt, at, row);
     }
     if kind == CELL {
-        return cell_seen(at, row, words, others);
+        return cell_seen(rt, at, row, words, others);
     }
     if kind == END_KIND {
         return at;
     }
-    called(at, row, words, others)
+    called(rt, at, row, words, others)
 }
 
 // A situation begins, on fresh boards of so many words.
-fn begun(at: Run, row: Row) -> Run {
+fn begun(rt: &impl Print, at: Run, row: Row) -> Run {
     let next = at.in_case(row.1);
-    label(next.case, next.step);
-    say(b" board ");
-    number(row.2);
-    say(b"\n");
+    label(rt, next.case, next.step);
+    say(rt, b" board ");
+    number(rt, row.2);
+    say(rt, b"\n");
     next.lent(row.2 as usize)
         .now(Board::fresh(), Board::fresh())
 }
 
 // A situation begins on the boards of the one before it.
-fn gone_on(at: Run, row: Row) -> Run {
+fn gone_on(rt: &impl Print, at: Run, row: Row) -> Run {
     let next = at.in_case(row.1);
-    label(next.case, next.step);
-    say(b" goes on\n");
+    label(rt, next.case, next.step);
+    say(rt, b" goes on\n");
     next
 }
 
 // A call, as a value on one board and as bytes on the other.
-fn called(at: Run, row: Row, words: &mut [u32], others: &mut [u32]) -> Run {
+fn called(rt: &impl Print, at: Run, row: Row, words: &mut [u32], others: &mut [u32]) -> Run {
     let next = at.stepped();
-    label(next.case, next.step);
-    say_call(row);
+    label(rt, next.case, next.step);
+    say_call(rt, row);
     let call = call_of(row);
     let board = next.board;
     let a = by_value(board, words, next.length, call);
     let served = next.served;
     let s = as_bytes(served, others, next.length, call);
-    next.answered(row, a, s)
+    next.answered(rt, row, a, s)
 }
 
 // A call as a value, on so many of the words.
@@ -563,21 +569,21 @@ fn send(board: Board, cells: &mut [u32], call: Call) -> Sent {
 }
 
 // Says what came back, and whether it is what the row says.
-fn said(answer: Answer, row: Row) -> bool {
+fn said(rt: &impl Print, answer: Answer, row: Row) -> bool {
     let no = wide(records::number(answer));
     let value = records::value(answer);
-    say(b" -> ");
-    say_answer(no, value);
+    say(rt, b" -> ");
+    say_answer(rt, no, value);
     let right = (no == row.4) & (value == row.5);
     if !right {
-        say(b", document 01 says ");
-        say_answer(row.4, row.5);
+        say(rt, b", document 01 says ");
+        say_answer(rt, row.4, row.5);
     }
     right
 }
 
 // Whether what came back as bytes is what the row says, or RECORD for a call that has no record; says it where it is not.
-fn said_as_bytes(s: Sent, row: Row) -> bool {
+fn said_as_bytes(rt: &impl Print, s: Sent, row: Row) -> bool {
     let answer = s.answer;
     let no = wide(records::number(answer));
     let value = records::value(answer);
@@ -587,20 +593,20 @@ fn said_as_bytes(s: Sent, row: Row) -> bool {
     if right | refused {
         return true;
     }
-    say(b", as bytes ");
-    say_answer(no, value);
+    say(rt, b", as bytes ");
+    say_answer(rt, no, value);
     false
 }
 
 // The four words of a cell, the same on both boards.
-fn cell_seen(at: Run, row: Row, words: &mut [u32], others: &mut [u32]) -> Run {
+fn cell_seen(rt: &impl Print, at: Run, row: Row, words: &mut [u32], others: &mut [u32]) -> Run {
     let next = at.stepped();
-    label(next.case, next.step);
-    say(b" cell ");
-    number(row.1);
-    say(b" -> ");
+    label(rt, next.case, next.step);
+    say(rt, b" cell ");
+    number(rt, row.1);
+    say(rt, b" -> ");
     let c = cell_of(words, row.1);
-    say_words(c);
+    say_words(rt, c);
     let right = same_words(
         c,
         Cell {
@@ -611,21 +617,24 @@ fn cell_seen(at: Run, row: Row, words: &mut [u32], others: &mut [u32]) -> Run {
         },
     );
     if !right {
-        say(b", document 01 says ");
-        say_words(Cell {
-            word: row.2,
-            value: row.3,
-            number: row.4,
-            commit: row.5,
-        });
+        say(rt, b", document 01 says ");
+        say_words(
+            rt,
+            Cell {
+                word: row.2,
+                value: row.3,
+                number: row.4,
+                commit: row.5,
+            },
+        );
     }
     let o = cell_of(others, row.1);
     let right_sent = same_words(o, c);
     if !right_sent {
-        say(b", as bytes ");
-        say_words(o);
+        say(rt, b", as bytes ");
+        say_words(rt, o);
     }
-    say(b"\n");
+    say(rt, b"\n");
     next.checked(right & right_sent)
 }
 
@@ -670,11 +679,11 @@ impl Run {
     }
 
     // A call was answered, as a value and as bytes.
-    fn answered(self, row: Row, a: Answered, s: Sent) -> Self {
+    fn answered(self, rt: &impl Print, row: Row, a: Answered, s: Sent) -> Self {
         let answer = a.answer;
-        let right = said(answer, row);
-        let right_sent = said_as_bytes(s, row);
-        say(b"\n");
+        let right = said(rt, answer, row);
+        let right_sent = said_as_bytes(rt, s, row);
+        say(rt, b"\n");
         let board = a.board;
         let served = s.board;
         self.now(board, served).checked(right & right_sent)
@@ -743,72 +752,72 @@ fn clear(words: &mut [u32]) {
 
 // PRINTING
 
-fn say(text: &[u8]) {
-    io::write_all(libc::STDOUT_FILENO, text);
+fn say(rt: &impl Print, text: &[u8]) {
+    let _ = rt.write_all(text);
 }
 
-fn number(n: u32) {
-    io::print_decimal(libc::STDOUT_FILENO, n as u64);
+fn number(rt: &impl Print, n: u32) {
+    let _ = rt.print(n);
 }
 
 fn wide(n: u8) -> u32 {
     n as u32
 }
 
-fn label(case: u32, step: u32) {
-    number(case);
-    say(b".");
-    number(step);
+fn label(rt: &impl Print, case: u32, step: u32) {
+    number(rt, case);
+    say(rt, b".");
+    number(rt, step);
 }
 
-fn say_words(c: Cell) {
-    number(c.word);
-    say(b" ");
-    number(c.value);
-    say(b" ");
-    number(c.number);
-    say(b" ");
-    number(c.commit);
+fn say_words(rt: &impl Print, c: Cell) {
+    number(rt, c.word);
+    say(rt, b" ");
+    number(rt, c.value);
+    say(rt, b" ");
+    number(rt, c.number);
+    say(rt, b" ");
+    number(rt, c.commit);
 }
 
 // The kind, the place, the key if it names one, and the value if it names one.
-fn say_call(row: Row) {
+fn say_call(rt: &impl Print, row: Row) {
     let kind = row.0;
     match kind {
-        1 => say(b" start "),
-        2 => say(b" read "),
-        3 => say(b" update "),
-        4 => say(b" prepare "),
-        5 => say(b" commit "),
-        _ => say(b" rollback "),
+        1 => say(rt, b" start "),
+        2 => say(rt, b" read "),
+        3 => say(rt, b" update "),
+        4 => say(rt, b" prepare "),
+        5 => say(rt, b" commit "),
+        _ => say(rt, b" rollback "),
     }
-    number(row.1);
+    number(rt, row.1);
     if (kind == READ) | (kind == UPDATE) {
-        say(b" ");
-        number(row.2);
+        say(rt, b" ");
+        number(rt, row.2);
     }
     if kind == UPDATE {
-        say(b" ");
-        number(row.3);
+        say(rt, b" ");
+        number(rt, row.3);
     }
 }
 
 // An answer's name and value.
-fn say_answer(no: u32, value: u32) {
+fn say_answer(rt: &impl Print, no: u32, value: u32) {
     match no {
-        0 => say(b"OK "),
-        1 => say(b"BOARD "),
-        2 => say(b"PLACE "),
-        3 => say(b"BUSY "),
-        4 => say(b"IDLE "),
-        5 => say(b"WORN "),
-        6 => say(b"SPOILED "),
-        7 => say(b"HELD "),
-        8 => say(b"KEY "),
-        9 => say(b"CONFLICT "),
-        10 => say(b"PREPARED "),
-        11 => say(b"FULL "),
-        _ => say(b"RECORD "),
+        0 => say(rt, b"OK "),
+        1 => say(rt, b"BOARD "),
+        2 => say(rt, b"PLACE "),
+        3 => say(rt, b"BUSY "),
+        4 => say(rt, b"IDLE "),
+        5 => say(rt, b"WORN "),
+        6 => say(rt, b"SPOILED "),
+        7 => say(rt, b"HELD "),
+        8 => say(rt, b"KEY "),
+        9 => say(rt, b"CONFLICT "),
+        10 => say(rt, b"PREPARED "),
+        11 => say(rt, b"FULL "),
+        _ => say(rt, b"RECORD "),
     }
-    number(value);
+    number(rt, value);
 }

@@ -3,134 +3,154 @@
 
 #![tactic(auto)]
 
-ghost use Rattle.std.specs.Prelude.{◌≡◌, ◌-◌, ◌≤◌};
-ghost use Rattle.io.specs.Counts.{IsPrefixLen};
+ghost use Rattle.std.specs.Prelude.{◌≡◌, ◌-◌, ◌≤◌, length, take};
 
 use lanes::Stop;
+use std::fs;
+use std::io::Read;
+use std::rt::Files;
 use steps::Board;
 use turns::Desk;
 
-fn main() {
-    streams();
-    cut_records();
-    bad_records();
-    long_streams();
-    rooms();
+// The room for a file, and for what is served of it.
+const ROOM: usize = 65536;
+
+fn main(rt: HostRuntime) {
+    streams(&rt);
+    cut_records(&rt);
+    bad_records(&rt);
+    long_streams(&rt);
+    rooms(&rt);
 }
 
-fn streams() {
-    stream(b"empty", b"empty.answers");
-    stream(b"example", b"example.answers");
-    stream(b"out_of_range", b"out_of_range.answers");
+fn streams(rt: &(impl Files + Print + Eprint)) {
+    stream(rt, "empty", "empty.answers");
+    stream(rt, "example", "example.answers");
+    stream(rt, "out_of_range", "out_of_range.answers");
 }
 
 // A record cut at each length, at the end of the input.
-fn cut_records() {
-    stream(b"cut_1", b"cut_1.answers");
-    stream(b"cut_2", b"cut_2.answers");
-    stream(b"cut_3", b"cut_3.answers");
-    stream(b"cut_4", b"cut_4.answers");
-    stream(b"cut_5", b"cut_5.answers");
-    stream(b"cut_6", b"cut_6.answers");
-    stream(b"cut_7", b"cut_7.answers");
-    stream(b"cut_8", b"cut_8.answers");
-    stream(b"cut_9", b"cut_9.answers");
+fn cut_records(rt: &(impl Files + Print + Eprint)) {
+    stream(rt, "cut_1", "cut_1.answers");
+    stream(rt, "cut_2", "cut_2.answers");
+    stream(rt, "cut_3", "cut_3.answers");
+    stream(rt, "cut_4", "cut_4.answers");
+    stream(rt, "cut_5", "cut_5.answers");
+    stream(rt, "cut_6", "cut_6.answers");
+    stream(rt, "cut_7", "cut_7.answers");
+    stream(rt, "cut_8", "cut_8.answers");
+    stream(rt, "cut_9", "cut_9.answers");
 }
 
 // Bytes that are no call, with calls before and behind them.
-fn bad_records() {
-    stream(b"bad_first", b"bad_first.answers");
-    stream(b"bad_mark", b"bad_mark.answers");
-    stream(b"bad_kind_0", b"bad_kind_0.answers");
-    stream(b"bad_kind_7", b"bad_kind_7.answers");
-    stream(b"bad_key", b"bad_key.answers");
-    stream(b"bad_value", b"bad_value.answers");
+fn bad_records(rt: &(impl Files + Print + Eprint)) {
+    stream(rt, "bad_first", "bad_first.answers");
+    stream(rt, "bad_mark", "bad_mark.answers");
+    stream(rt, "bad_kind_0", "bad_kind_0.answers");
+    stream(rt, "bad_kind_7", "bad_kind_7.answers");
+    stream(rt, "bad_key", "bad_key.answers");
+    stream(rt, "bad_value", "bad_value.answers");
 }
 
 // Many calls of every kind; the second ends in a cut record, the third is longer than a turn's input and has bytes that are no call midway.
-fn long_streams() {
-    stream(b"mixed", b"mixed.answers");
-    stream(b"mixed_cut", b"mixed_cut.answers");
-    stream(b"bad_midway", b"bad_midway.answers");
+fn long_streams(rt: &(impl Files + Print + Eprint)) {
+    stream(rt, "mixed", "mixed.answers");
+    stream(rt, "mixed_cut", "mixed_cut.answers");
+    stream(rt, "bad_midway", "bad_midway.answers");
 }
 
 // The example served with too little room, with just enough, and with more.
-fn rooms() {
-    let mut input = io::large_buffer();
-    let n = load(b"example", &mut input);
-    with_room(&input[..n], 0);
-    with_room(&input[..n], 7);
-    with_room(&input[..n], 8);
-    with_room(&input[..n], 23);
-    with_room(&input[..n], 24);
-    with_room(&input[..n], 65536);
+fn rooms(rt: &(impl Files + Print + Eprint)) {
+    let mut input = [0u8; ROOM];
+    let n = load(rt, "example", &mut input);
+    with_room(rt, &input[..n], 0);
+    with_room(rt, &input[..n], 7);
+    with_room(rt, &input[..n], 8);
+    with_room(rt, &input[..n], 23);
+    with_room(rt, &input[..n], 24);
+    with_room(rt, &input[..n], 65536);
 }
 
 // How far serving gets with room for so many bytes of answers, and why it stops.
-fn with_room(input: &[u8], room: usize) {
+fn with_room(rt: &impl Print, input: &[u8], room: usize) {
     let mut cells = Desk::words();
-    let mut answers = io::large_buffer();
+    let mut answers = [0u8; ROOM];
     let lent: &mut [u8] = &mut answers;
     if lent.len() < room {
         return;
     }
     let s = lanes::serve(Board::fresh(), &mut cells, input, &mut lent[..room]);
-    io::write_all(libc::STDOUT_FILENO, b"example with room for ");
-    io::print_decimal(libc::STDOUT_FILENO, room as u64);
-    io::write_all(libc::STDOUT_FILENO, b": ");
-    io::print_decimal(libc::STDOUT_FILENO, s.taken as u64);
-    io::write_all(libc::STDOUT_FILENO, b" taken, ");
-    io::print_decimal(libc::STDOUT_FILENO, s.written as u64);
+    say(rt, b"example with room for ");
+    number(rt, room);
+    say(rt, b": ");
+    number(rt, s.taken);
+    say(rt, b" taken, ");
+    number(rt, s.written);
     let stop = s.stop;
     match stop {
-        Stop::End => io::write_all(libc::STDOUT_FILENO, b" written, END\n"),
-        Stop::Record => io::write_all(libc::STDOUT_FILENO, b" written, RECORD\n"),
-        Stop::Room => io::write_all(libc::STDOUT_FILENO, b" written, ROOM\n"),
+        Stop::End => say(rt, b" written, END\n"),
+        Stop::Record => say(rt, b" written, RECORD\n"),
+        Stop::Room => say(rt, b" written, ROOM\n"),
     };
 }
 
 // One stream, in pieces of one byte, of less than a record, of a record, of more, and whole.
-fn stream(name: &[u8], stored: &[u8]) {
-    let mut input = io::large_buffer();
-    let mut want = io::large_buffer();
-    let n = load(name, &mut input);
-    let m = load(stored, &mut want);
-    in_pieces(name, &input[..n], 1, &want, m);
-    in_pieces(name, &input[..n], 3, &want, m);
-    in_pieces(name, &input[..n], 10, &want, m);
-    in_pieces(name, &input[..n], 64, &want, m);
-    in_pieces(name, &input[..n], 65536, &want, m);
+fn stream(rt: &(impl Files + Print + Eprint), name: &str, stored: &str) {
+    let mut input = [0u8; ROOM];
+    let mut want = [0u8; ROOM];
+    let n = load(rt, name, &mut input);
+    let m = load(rt, stored, &mut want);
+    in_pieces(rt, name, &input[..n], 1, &want, m);
+    in_pieces(rt, name, &input[..n], 3, &want, m);
+    in_pieces(rt, name, &input[..n], 10, &want, m);
+    in_pieces(rt, name, &input[..n], 64, &want, m);
+    in_pieces(rt, name, &input[..n], 65536, &want, m);
 }
 
-// Reads a file into a buffer, and says how many bytes it has.
-fn load(name: &[u8], buffer: &mut [u8]) -> usize
-    ensures { IsPrefixLen result buffer.new }
+// Reads a file into a buffer, and says how many bytes it has: none of a file that cannot be opened.
+fn load(rt: &(impl Files + Eprint), name: &str, buffer: &mut [u8]) -> usize
+    ensures { (result ≤ length buffer.new) × (result ≡ length (take result buffer.new)) }
 {
-    let file = os::open_read(name);
-    if file < 0 {
-        os::fail(name);
+    match fs::open(rt, name) {
+        Ok(mut file) => read_full(&mut file, buffer),
+        Err(error) => {
+            let _ = rt.eprintln(format_args!("{name}: {error}"));
+            0
+        }
     }
-    let n = io::read_full(file, buffer);
-    libc::close(file);
-    n
+}
+
+// Reads until the buffer is full, the file ends or a read fails, and says how many bytes came.
+fn read_full(file: &mut impl Read, buffer: &mut [u8]) -> usize
+    ensures { (result ≤ length buffer.new) × (result ≡ length (take result buffer.new)) }
+{
+    let mut done = 0;
+    while done < buffer.len() {
+        let n = file.read(&mut buffer[done..]).unwrap_or(0);
+        if n == 0 {
+            break;
+        }
+        done += n;
+    }
+    done
 }
 
 // Serves the input in pieces of a size, and compares what was written with the first m bytes of what is stored.
-fn in_pieces(name: &[u8], input: &[u8], size: usize, want: &[u8], m: usize) {
+fn in_pieces(rt: &impl Print, name: &str, input: &[u8], size: usize, want: &[u8], m: usize) {
     let mut cells = Desk::words();
     let mut bytes = [0u8; Desk::INPUT];
     let mut answers = [0u8; Desk::OUTPUT];
-    let mut out = io::large_buffer();
+    let mut out = [0u8; ROOM];
     let written = run(input, size, &mut cells, &mut bytes, &mut answers, &mut out);
-    io::write_all(libc::STDOUT_FILENO, name);
-    io::write_all(libc::STDOUT_FILENO, b" in pieces of ");
-    io::print_decimal(libc::STDOUT_FILENO, size as u64);
-    io::write_all(libc::STDOUT_FILENO, b": ");
-    io::print_decimal(libc::STDOUT_FILENO, written as u64);
+    say(rt, name.as_bytes());
+    say(rt, b" in pieces of ");
+    number(rt, size);
+    say(rt, b": ");
+    number(rt, written);
     if same(&out, written, want, m) {
-        io::write_all(libc::STDOUT_FILENO, b" bytes, as stored\n");
+        say(rt, b" bytes, as stored\n");
     } else {
-        io::write_all(libc::STDOUT_FILENO, b" bytes, NOT AS STORED\n");
+        say(rt, b" bytes, NOT AS STORED\n");
     }
 }
 
@@ -212,4 +232,14 @@ fn sum(a: usize, b: usize) -> usize {
         return a + b;
     }
     a
+}
+
+// PRINTING
+
+fn say(rt: &impl Print, text: &[u8]) {
+    let _ = rt.write_all(text);
+}
+
+fn number(rt: &impl Print, n: usize) {
+    let _ = rt.print(n);
 }
