@@ -2,11 +2,12 @@
 -- Assumes nothing.
 use mathlib.Core.Path.{◌≡◌, refl, sym, ap, ◌∙◌}
 use mathlib.Core.Logic.{inl, inr, ◌↔◌}
-use mathlib.Core.Bool.{Bool, true, false}
+use mathlib.Core.Bool.{Bool, ◌&&◌, true, false}
 use mathlib.Core.List.{List, [], ◌∷◌}
 use mathlib.Core.Option.{none}
 use Prim.Native.Nat.{ℕ, suc, ◌+◌, ◌≤◌, ◌<◌}
 use native.Mathlib.Omega.{arith}
+use lib.Dec.{ltb}
 use lib.ListN.{length, take}
 use lib.Seq.{take-length}
 use Rattle.records.specs.declared.Answer.{Answer}
@@ -16,7 +17,7 @@ use Rattle.cells.specs.declared.Reader.{Reader}
 use Rattle.scans.specs.declared.Found.{Found}
 use Rattle.cells.specs.Cells.{no_cell}
 use Rattle.scans.specs.Rules.{newest, own_at, newest_seen, conflict}
-use Rattle.cells.specs.Rules.{visible, blocks}
+use Rattle.cells.specs.Rules.{pick_cell, visible, blocks}
 use Rattle.scans.proofs.Meaning.{Newest, has_found, some_has, seen_means}
 use Rattle.places.specs.declared.State.{State}
 use Rattle.steps.specs.declared.Board.{Board}
