@@ -133,7 +133,9 @@ calls_append (x ∷ a) b ws cs = calls_append a b _ _
 pub mixed_is_calls : MixedIsCalls
 unfolding deeds_on asks_of calls_on
 mixed_is_calls ws cs [] = refl
-mixed_is_calls ws cs (by_call a ∷ more) = mixed_is_calls _ _ more
+mixed_is_calls ws cs (by_call a ∷ more) = mixed_is_calls (call_on ws cs a).words (call_on ws cs a).cells more
 mixed_is_calls ws cs (by_serve l ∷ more) =
     let s = serve_is_calls ws cs l in
-    (λ i. deeds_on (s.words i) (s.cells i) more) ∙ mixed_is_calls _ _ more ∙ sym (calls_append (asks_for l) (asks_of more) ws cs)
+    (λ i. deeds_on (s.words i) (s.cells i) more)
+    ∙ mixed_is_calls (calls_on ws cs (asks_for l)).words (calls_on ws cs (asks_for l)).cells more
+    ∙ sym (calls_append (asks_for l) (asks_of more) ws cs)
