@@ -1,7 +1,6 @@
 -- `first_of` meets its contract. The invariant: the checks that are left answer for all.
 -- Assumes nothing.
 use mathlib.Core.Path.{◌≡◌, refl, sym, ◌∙◌}
-use Prim.Native.Nat.{◌-◌}
 use native.Mathlib.Omega.{arith}
 use lib.ListN.{length}
 use Rattle.checks.specs.Check.{check_count}

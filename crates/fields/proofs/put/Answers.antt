@@ -1,10 +1,10 @@
 -- The loop has put the first i bytes. Assumes nothing.
 use mathlib.Core.Path.{refl, sym}
-use Prim.Native.Nat.{◌-◌, zero-le}
+use Prim.Native.Nat.{zero-le}
 use native.Mathlib.Omega.{arith}
 use borrow.Author.Tests.{le-leb}
-use lib.ListN.{length, length-set}
-use lib.Seq.{paste, paste-zero}
+use lib.ListN.{length-set}
+use lib.Seq.{paste-zero}
 use Rattle.fields.proofs.Bytes.{put_turn, put_end}
 use Rattle.fields.proofs.put.Goals as goal
 

@@ -1,8 +1,6 @@
 -- The loop has the bytes from i on left to test. Assumes nothing.
 use mathlib.Core.Path.{sym, ◌∙◌}
-use Prim.Native.Nat.{◌-◌}
 use native.Mathlib.Omega.{arith}
-use lib.ListN.{length}
 use Rattle.fields.proofs.Bytes.{same_lengths, same_differ, same_next, same_end}
 use Rattle.fields.proofs.same.Goals as goal
 

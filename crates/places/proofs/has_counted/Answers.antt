@@ -1,12 +1,11 @@
 -- `has_counted` meets its contract. The invariant: what is left to look at answers for the whole.
 -- Assumes nothing.
 use mathlib.Core.Path.{◌≡◌, refl, sym, ap, ◌∙◌}
-use Prim.Native.Nat.{◌-◌}
 use native.Mathlib.Omega.{arith}
 use borrow.Author.Rules.{rules}
 use lib.ListN.{length}
 use Rattle.places.specs.Places.{all_places}
-use Rattle.places.specs.Shape.{held, counted, each}
+use Rattle.places.specs.Shape.{counted, each}
 use Rattle.places.proofs.Places.{each_turn, held_end}
 use Rattle.places.proofs.has_counted.Goals as goal
 

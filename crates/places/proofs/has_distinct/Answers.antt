@@ -1,12 +1,11 @@
 -- `has_distinct` meets its contract. The invariant: what is left to look at answers for the whole.
 -- Assumes nothing.
 use mathlib.Core.Path.{◌≡◌, refl, sym, ap, ◌∙◌}
-use Prim.Native.Nat.{◌-◌}
 use native.Mathlib.Omega.{arith}
 use borrow.Author.Rules.{rules}
 use lib.ListN.{length}
 use Rattle.places.specs.Places.{all_places}
-use Rattle.places.specs.Shape.{held, distinct}
+use Rattle.places.specs.Shape.{distinct}
 use Rattle.places.proofs.Places.{distinct_turn, held_end}
 use Rattle.places.proofs.has_distinct.Goals as goal
 

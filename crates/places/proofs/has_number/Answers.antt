@@ -1,12 +1,11 @@
 -- `has_number` meets its contract. The invariant: what is left to look at answers for the whole.
 -- Assumes nothing.
 use mathlib.Core.Path.{◌≡◌, refl, sym, ap, ◌∙◌}
-use Prim.Native.Nat.{◌-◌}
 use native.Mathlib.Omega.{arith}
 use borrow.Author.Rules.{rules}
 use lib.ListN.{length}
 use Rattle.places.specs.Places.{all_places}
-use Rattle.places.specs.Shape.{held, has_number}
+use Rattle.places.specs.Shape.{has_number}
 use Rattle.places.proofs.Places.{number_turn, held_end}
 use Rattle.places.proofs.has_number.Goals as goal
 

@@ -1,13 +1,11 @@
 -- `held_count` meets its contract. The invariant: what is counted, and what is left to count, is the whole.
 -- Assumes nothing.
 use mathlib.Core.Path.{◌≡◌, sym, ap, ◌∙◌}
-use Prim.Native.Nat.{◌-◌}
 use native.Mathlib.Omega.{arith}
 use borrow.Author.Rules.{rules}
 use borrow.Author.Tests.{not-true, not-false}
 use lib.ListN.{length}
 use Rattle.places.specs.Places.{all_places}
-use Rattle.places.specs.Shape.{held}
 use Rattle.places.proofs.Places.{count_turn, held_end}
 use Rattle.places.proofs.held_count.Goals as goal
 

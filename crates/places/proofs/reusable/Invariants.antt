@@ -5,7 +5,7 @@ use mathlib.Core.Path.{◌≡◌}
 use Prim.Native.Nat.{◌-◌, ◌≤◌}
 use lib.ListN.{drop}
 use Rattle.cells.specs.Cells.{cells_of}
-use Rattle.scans.specs.Rules.{lowest_from, keeps}
+use Rattle.scans.specs.Rules.{lowest_from}
 use Rattle.places.specs.Places.{all_places}
 use Rattle.places.specs.Spent.{has_place, keeps_at, free, reusable}
 use Rattle.places.proofs.reusable.Given as goal

@@ -1,7 +1,7 @@
 use borrow.Author.Rules.{rules}
 use mathlib.Core.Path.{◌≡◌, ◌∙◌}
 use mathlib.Core.Bool.{Bool, true, false}
-use Prim.Native.Nat.{ℕ, ◌+◌, ◌-◌}
+use Prim.Native.Nat.{ℕ, ◌+◌}
 use Rattle.cells.specs.declared.Cell.{Cell}
 use Rattle.cells.specs.Rules.{ended, part_is}
 use Rattle.scans.proofs.Scan.{to_none, to_at, to-next, to_end}

@@ -2,7 +2,7 @@ use borrow.Author.Rules.{rules}
 use borrow.Author.Tests.{lt-leb, le-leb}
 use mathlib.Core.Path.{◌≡◌, ◌∙◌}
 use mathlib.Core.Bool.{true, false}
-use Prim.Native.Nat.{◌+◌, ◌-◌}
+use Prim.Native.Nat.{◌+◌}
 use lib.ListN.{get_or}
 use Rattle.cells.specs.Cells.{cells_of, no_cell}
 use Rattle.cells.specs.Rules.{between}

@@ -1,8 +1,7 @@
 use borrow.Author.Rules.{rules}
 use native.Mathlib.Omega.{arith}
 use mathlib.Core.Path.{sym, ap, ◌∙◌}
-use mathlib.Core.Bool.{true}
-use Prim.Native.Nat.{ℕ, ◌+◌, ◌-◌, ◌<◌}
+use Prim.Native.Nat.{ℕ, ◌+◌, ◌<◌}
 use lib.ListN.{length, drop}
 use Rattle.cells.specs.declared.Cell.{Cell}
 use Rattle.scans.specs.declared.Looked.{Looked}

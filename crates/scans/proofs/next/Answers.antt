@@ -2,8 +2,7 @@ use borrow.Author.Rules.{rules}
 use borrow.Author.Count.{below_more}
 use borrow.Author.Tests.{not-true, eq-eqb, ne_eqb}
 use native.Mathlib.Omega.{arith}
-use mathlib.Core.Bool.{false, ◌||◌}
-use Prim.Native.Nat.{◌-◌}
+use mathlib.Core.Bool.{◌||◌}
 use Rattle.cells.specs.Cells.{cells_of}
 use Rattle.cells.specs.Rules.{part_is}
 use Rattle.cells.proofs.Words.{length_cells}
