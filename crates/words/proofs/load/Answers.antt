@@ -1,9 +1,8 @@
 -- `words::load` meets its contract. The invariant: the places read are the first of those in the words. Assumes nothing.
 use borrow.Author.Rules.{rules}
 use mathlib.Core.Path.{◌≡◌, refl, sym, ap, ◌∙◌}
-use Prim.Native.Nat.{◌-◌}
 use native.Mathlib.Omega.{arith}
-use lib.ListN.{length, take}
+use lib.ListN.{length}
 use Rattle.steps.specs.declared.Board.{Board}
 use Rattle.places.specs.Places.{idle_place}
 use Rattle.words.specs.Words.{place_of_words, places_of, record_of}

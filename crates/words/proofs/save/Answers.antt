@@ -2,9 +2,8 @@
 use borrow.Author.Rules.{rules}
 use mathlib.Core.Path.{refl, sym, ◌∙◌}
 use mathlib.Core.List.{flat_map}
-use Prim.Native.Nat.{◌-◌}
 use native.Mathlib.Omega.{arith}
-use lib.ListN.{length, length-set}
+use lib.ListN.{length-set}
 use Rattle.laws.proofs.Lists.{long}
 use Rattle.words.specs.Words.{words_of_places}
 use Rattle.words.proofs.Words.{span, length_at, save-turn, save-end, saved-all, saved-none}
