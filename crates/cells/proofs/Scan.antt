@@ -1,7 +1,7 @@
 -- A scan of cells from the front: what one turn, and the end, tell. In each, `drop i cs` is what has yet to be looked at.
---     lowest-..     the lowest that passes a test
---     has-..        whether one passes
---     to-..         cells that are changed one by one, in words
+--     lowest_..     the lowest that passes a test
+--     has_..        whether one passes
+--     to_..         cells that are changed one by one, in words
 -- Assumes nothing.
 use mathlib.Core.Path.{◌≡◌, sym, ap, ◌∙◌}
 use mathlib.Core.Bool.{Bool, true, false}

@@ -2,7 +2,7 @@
 --     with_cells_lem, cells_with     the words with their own cells are the words; the cells put in words are read back
 --     with_with, past_with       putting cells in twice is putting in the last; the words past the last whole cell stay
 --     past_whole, whole_words    in whole cells no word stands past the last
---     length-..                  how many words and cells there are
+--     length_..                  how many words and cells there are
 --     cell_read, cell_write      what four reads and four stores at a cell's words are
 --     cell_past, write_past      the same for a number that no cell has
 -- Assumes nothing.

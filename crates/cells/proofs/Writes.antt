@@ -1,5 +1,5 @@
 -- What the writes do, cell by cell and word by word.
---     stamped-.., wiped-..       an own cell, and any other cell, that is stamped or wiped
+--     stamped_.., wiped_..       an own cell, and any other cell, that is stamped or wiped
 --     stamp_at, wipe_at          each cell after every own cell is stamped or wiped
 --     length_map_cells, length_put     the lent words stay as many
 --     put_other                  where one cell is written whole, every other word stays

@@ -1,7 +1,7 @@
 -- On the history alone: where every accepted update passed the conflict test, committed transactions that overlapped wrote no key in
 -- common; and every answered read showed what its transaction sees. This is what binds the store; when transactions began and ended, and
 -- which others they saw, is in Timed.
---     Fair, fair-..       what is kept by each accepted call, and by one that leaves no trace
+--     Fair, fair_..       what is kept by each accepted call, and by one that leaves no trace
 --     overlapped_apart    what overlapped wrote no key in common
 -- Assumes nothing.
 use mathlib.Core.Path.{◌≡◌, refl, sym, ◌∙◌, subst}

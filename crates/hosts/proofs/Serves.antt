@@ -1,5 +1,5 @@
 -- Any sequence of `lane_serve`s from zero words tells the history of the calls tried.
---     served-..       what serving on a record leaves and writes
+--     served_..       what serving on a record leaves and writes
 --     held            what all of them leave
 --     three           a history in three parts: before one lane_serve, its own, and after it
 --     serves_tell     each wrote the answers of its part, and the last words are the record's and the cells'

@@ -1,5 +1,5 @@
 -- Words and records: what stands where, and that words and records are each other's inverse.
---     state-.., word_state              a state and its word
+--     state_.., word_state              a state and its word
 --     wide, place_words_lem, words_place    a place and its words
 --     length_places, place_at_lem           the places that words are
 --     span, length_at                   the words that the code takes for a place

@@ -1,5 +1,5 @@
 -- Turns one after another on the same lent bytes send what the desk writes: `turns`.
---     sends-..     a turn after a read: what it sends, and what the rest of the input comes to
+--     sends_..     a turn after a read: what it sends, and what the rest of the input comes to
 -- Assumes nothing.
 use mathlib.Core.Path.{◌≡◌, refl, sym, ap, ◌∙◌, subst⁻¹}
 use mathlib.Core.Bool.{Bool, true, false, cond, true≢false}

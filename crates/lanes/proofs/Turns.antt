@@ -1,7 +1,7 @@
 -- One turn of the desk on lent bytes: the bytes that are there, serving them, and what is left of them.
 --     have_is           the first bytes are the cut record and what was got
---     put-..            bytes at the front of the lent ones
---     end-..            what `finish` writes
+--     put_..            bytes at the front of the lent ones
+--     end_..            what `finish` writes
 --     turn_is           what `turn_on` calls comes to a turn on those bytes
 --     turn_ended, -got  what `turn` hands back at the end of the input, and after a read
 -- Assumes nothing.

@@ -1,9 +1,9 @@
 -- Laws of bytes that know nothing of calls and answers:
---     and-..     what a test made of two says
+--     and_..     what a test made of two says
 --     gets       a part of the bytes one by one, as the code reads it
---     same-..    what `same_bytes` tests
---     bytes-..   a number in so many bytes, and the number that bytes are: inverse, at every width
---     put-..     a record put from an offset: what stands there, what stands elsewhere, one put behind another
+--     same_..    what `same_bytes` tests
+--     bytes_..   a number in so many bytes, and the number that bytes are: inverse, at every width
+--     put_..     a record put from an offset: what stands there, what stands elsewhere, one put behind another
 -- Assumes nothing.
 use mathlib.Core.Path.{◌≡◌, refl, sym, ap, ◌∙◌, subst}
 use mathlib.Core.Bool.{Bool, true, false, ◌&&◌, and_assoc, false≢true}
@@ -32,6 +32,10 @@ and_left false b e = e
 pub and_right : (a b : Bool) → (a && b) ≡ true → b ≡ true
 and_right true b e = e
 and_right false b e = absurd (false≢true e)
+
+-- where two tests passed, and the second is that there is room: there is
+pub has_room : (n at len : ℕ) (fits has : Bool) → has ≡ leb (at + n) len → (fits && has) ≡ true → at + n ≤ len
+has_room n at len fits has told passed = leb-true _ _ (sym told ∙ and_right fits has passed)
 
 pub both : {a b : Bool} → a ≡ true → b ≡ true → (a && b) ≡ true
 both p q = cc

@@ -4,7 +4,7 @@
 --     answer_case        number and value determine the case of an answer
 --     written_once       two outcomes of writing that meet the contract are the same
 --     read_once          two results that meet an equation are the same
---     example-..         document 01's whole example, byte for byte
+--     example_..         document 01's whole example, byte for byte
 -- Assumes nothing.
 use mathlib.Core.Path.{◌≡◌, refl, sym, ap, ◌∙◌, subst}
 use mathlib.Core.Bool.{Bool, true, false, cond, ◌&&◌, and-false}

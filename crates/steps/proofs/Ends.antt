@@ -1,6 +1,6 @@
 -- The ways in which a read and an update end: what the contracts below gave on the way there, and what the step comes to.
 -- Assumes nothing.
-use mathlib.Core.Path.{◌≡◌, ap, ◌∙◌}
+use mathlib.Core.Path.{◌≡◌, sym, ap, ◌∙◌}
 use mathlib.Core.Bool.{Bool, true, false}
 use mathlib.Core.List.{List}
 use Prim.Native.Nat.{ℕ}
@@ -8,14 +8,20 @@ use lib.ListN.{get_or, set}
 use Rattle.records.specs.declared.Answer.{Answer}
 use Rattle.cells.specs.declared.Cell.{Cell}
 use Rattle.cells.specs.declared.Found.{Found}
+use Rattle.cells.specs.declared.Looked.{Looked}
 use Rattle.cells.specs.Cells.{no_cell, with_cells}
-use Rattle.cells.specs.Rules.{own_at, newest_seen, conflict, valued}
+use Rattle.cells.specs.Rules.{own_at, look_of, newest_seen, conflict, valued}
 use Rattle.steps.specs.declared.Answered.{Answered}
 use Rattle.steps.specs.declared.Board.{Board}
 use Rattle.steps.specs.Record.{lost_board}
 use Rattle.steps.specs.Spent.{reusable, held_back}
 use Rattle.steps.specs.Store.{Store, Outcome, lent, cells_in, answered}
 use Rattle.steps.specs.Step.{outcome, number_at, view_at, draft, shown_at, written, updated_as}
+
+-- the own cell that a look found, or that there is none
+pub looked_own : (key number view : ℕ) (cs : List Cell) {l : Looked} {f : Found} → l ≡ look_of key number view cs → l.own ≡ f
+    → own_at key number cs ≡ f
+looked_own key number view cs e g = sym (ap (λ (l : Looked). l.own) e) ∙ g
 
 module _ (st : Store) (p key : ℕ) where
   abbrev b : Board

@@ -15,9 +15,8 @@ use Rattle.cells.proofs.look.Goals as goal
 pub returns-then-key-eq4294967295 : goal.returns-then-key-eq4294967295
 returns-then-key-eq4294967295 c =
     let s = c.args in
-    let known = c.shared_slice_known-1.given in
     c.none-seen.ensures
-    ∙ look_last s.cells.now s.number s.view (λ k. omega (arith, known k))
+    ∙ look_last s.cells.now s.number s.view (λ k. omega (arith, c.type_inv.cells k))
     ∙ ap (λ (k : ℕ). look_of k s.number s.view (cells_of s.cells.now)) (sym c.if-key-eq4294967295.true)
 
 pub loop-i-init : goal.loop-i-init

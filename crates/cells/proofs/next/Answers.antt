@@ -1,8 +1,7 @@
 use borrow.Author.Rules.{rules}
 use borrow.Author.Count.{below_more}
-use borrow.Author.Tests.{not-true, eq-eqb, ne_eqb}
+use borrow.Author.Tests.{eq-eqb, ne_eqb}
 use native.Mathlib.Omega.{arith}
-use mathlib.Core.Bool.{◌||◌}
 use Rattle.cells.specs.Cells.{cells_of}
 use Rattle.cells.specs.Search.{part_is}
 use Rattle.cells.proofs.Words.{length_cells}
@@ -16,7 +15,7 @@ pub loop-i-preserved-then-not-four_have : goal.loop-i-preserved-then-not-four_ha
 loop-i-preserved-then-not-four_have c =
     let s = c.args in
     let p = part_is s.number s.word in
-    let none = not-true (c.four_have.result || c.four_have-then-n-i-ge8.result) c.if-not-four_have.true-raw in
+    let none = c.if-not-four_have.true in
     (search rules, eight_more p (cells_of s.cells.now) s.from c.loop-i.i c.loop-i.invariant.1 (cc))
 
 pub returns-then-part-word : goal.returns-then-part-word

@@ -1,29 +1,24 @@
 -- `lane_c::step_on_words` meets its contract. Assumes nothing.
-use borrow.Author.Tests.{not-true, not-false}
-use mathlib.Core.Path.{◌≡◌, sym, ◌∙◌}
-use mathlib.Core.Bool.{true}
-use Rattle.lane_c.specs.Words.{well_formed}
+use mathlib.Core.Path.{sym, ◌∙◌}
 use Rattle.lane_c.proofs.Words.{well_length}
 use Rattle.lane_c.proofs.Calls.{step_board, step_done}
 use Rattle.lane_c.proofs.step_on_words.Goals as goal
 
 pub returns-then-not-well_formed : goal.returns-then-not-well_formed
 returns-then-not-well_formed c =
-    step_board _ _ _ _ (sym c.well_formed-2.ensures ∙ not-true _ c.if-not-well_formed.true-raw)
+    step_board _ _ _ _ (sym c.well_formed-2.ensures ∙ c.if-not-well_formed.true)
     c.answer_word.ensures.0 c.answer_word.ensures.1
 
 pub load-before-requires : goal.load-before-requires
 load-before-requires c =
-    let fit : well_formed c.args.words.now ≡ true = sym c.well_formed-2.ensures ∙ not-false _ c.if-not-well_formed.false-raw in
-    well_length _ fit
+    well_length _ (sym c.well_formed-2.ensures ∙ c.if-not-well_formed.false)
 
 pub save-requires : goal.save-requires
 save-requires c =
-    let fit : well_formed c.args.words.now ≡ true = sym c.well_formed-2.ensures ∙ not-false _ c.if-not-well_formed.false-raw in
-    well_length _ fit
+    well_length _ (sym c.well_formed-2.ensures ∙ c.if-not-well_formed.false)
 
 pub returns : goal.returns
 returns c =
-    let fit : well_formed c.args.words.now ≡ true = sym c.well_formed-2.ensures ∙ not-false _ c.if-not-well_formed.false-raw in
-    step_done _ _ _ _ _ c.call-done.result _ _ fit c.load-before.ensures c.call-done.ensures
+    step_done _ _ _ _ _ c.call-done.result _ _ (sym c.well_formed-2.ensures ∙ c.if-not-well_formed.false)
+    c.load-before.ensures c.call-done.ensures
     c.save.ensures c.answer_word-2.ensures.0 c.answer_word-2.ensures.1

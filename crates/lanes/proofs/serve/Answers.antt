@@ -1,6 +1,7 @@
 -- `serve` meets its contract. The loop's invariant: what serving it all comes to is what is left to serve from here (`Rest`).
 -- The measure is the number of records that are left. Assumes nothing.
 use mathlib.Core.Path.{◌≡◌, sym, ap, ◌∙◌}
+use mathlib.Core.List.{List}
 use Prim.Native.Nat.{ℕ, ◌+◌, ◌*◌, ◌-◌, ◌≤◌, ◌<◌}
 use native.Mathlib.Nat.{sub-zero}
 use native.Mathlib.Omega.{arith}
@@ -8,11 +9,17 @@ use borrow.Author.Rules.{rules}
 use borrow.Author.Tests.{not-true, not-false}
 use lib.ListN.{length}
 use Rattle.records.specs.Format.{call_bytes, answer_bytes}
-use Rattle.steps.specs.Store.{lent}
+use Rattle.steps.specs.Store.{Store, lent}
 use Rattle.lanes.specs.declared.Stop.{Stop}
-use Rattle.lanes.specs.Serve.{serve_into}
+use Rattle.lanes.specs.Serve.{serve_into, tried}
 use Rattle.lanes.proofs.Rest.{rest, last_stop, rest_whole, rest_none, turn_good, turn_bad}
 use Rattle.lanes.proofs.serve.Goals as goal
+
+-- what serving it all comes to, with the number of records that are served
+whole_is : (st : Store) (calls answers : List ℕ) {n : ℕ} → n ≡ tried calls (length answers)
+    → serve_into st calls answers ≡ rest n 0 (last_stop calls n) st calls answers
+whole_is st calls answers e =
+    rest_whole st calls answers ∙ ap (λ (n : ℕ). rest n 0 (last_stop calls n) st calls answers) (sym e)
 
 pub loop-i-init : goal.loop-i-init
 loop-i-init c =
@@ -26,17 +33,11 @@ loop-i-init c =
 
 pub returns-then-not-t : goal.returns-then-not-t
 returns-then-not-t c =
-    let whole_is : let s = c.args in
-    serve_into (lent s.board s.cells.now) s.calls.now s.answers.now
-    ≡ rest c.least-records.result 0 (last_stop s.calls.now c.least-records.result) (lent s.board s.cells.now) s.calls.now
-    s.answers.now = let s = c.args in
-    rest_whole (lent s.board s.cells.now) s.calls.now s.answers.now
-    ∙ ap (λ (n : ℕ). rest n 0 (last_stop s.calls.now n) (lent s.board s.cells.now) s.calls.now s.answers.now)
-    (sym c.least-records.ensures) in
     let s = c.args in
+    let whole = whole_is (lent s.board s.cells.now) s.calls.now s.answers.now c.least-records.ensures in
     let n : ℕ = c.least-records.result in
     let here : c.loop-i.i < n = omega arith in
-    sym (whole_is
+    sym (whole
     ∙ c.loop-i.invariant.3
     ∙ turn_bad n c.loop-i.i here (last_stop s.calls.now n) (lent c.loop-i.next c.loop-i.cells) s.calls.now c.loop-i.answers
     c.answer_at-t.result c.answer_at-t.new.cells c.answer_at-t.new.answers c.answer_at-t.ensures
@@ -59,19 +60,13 @@ loop-i-preserved c =
 
 pub returns : goal.returns
 returns c =
-    let whole_is : let s = c.args in
-    serve_into (lent s.board s.cells.now) s.calls.now s.answers.now
-    ≡ rest c.least-records.result 0 (last_stop s.calls.now c.least-records.result) (lent s.board s.cells.now) s.calls.now
-    s.answers.now = let s = c.args in
-    rest_whole (lent s.board s.cells.now) s.calls.now s.answers.now
-    ∙ ap (λ (n : ℕ). rest n 0 (last_stop s.calls.now n) (lent s.board s.cells.now) s.calls.now s.answers.now)
-    (sym c.least-records.ensures) in
     let s = c.args in
+    let whole = whole_is (lent s.board s.cells.now) s.calls.now s.answers.now c.least-records.ensures in
     let n : ℕ = c.least-records.result in
     let last : Stop = last_stop s.calls.now n in
     let done : c.loop-i.i ≡ n = omega arith in
     let none : n - c.loop-i.i ≡ 0 = omega arith in
-    sym (whole_is
+    sym (whole
     ∙ c.loop-i.invariant.3
     ∙ (λ i. rest (none i) (done i) last (lent c.loop-i.next c.loop-i.cells) s.calls.now c.loop-i.answers)
     ∙ rest_none n last (lent c.loop-i.next c.loop-i.cells) s.calls.now c.loop-i.answers

@@ -1,27 +1,30 @@
 use mathlib.Core.Path.{sym, ap, ◌∙◌}
 use mathlib.Core.List.{List}
 use Prim.Native.Nat.{ℕ, ◌+◌, ◌≤◌}
+use mathlib.Core.Path.{◌≡◌}
+use mathlib.Core.Bool.{Bool, true}
 use native.Mathlib.Omega.{arith}
+use lib.Dec.{leb}
 use borrow.Author.Tests.{leb-true, leb-false}
-use lib.ListN.{length, take, length-drop}
+use lib.ListN.{take, length-drop}
 use Rattle.records.specs.Format.{answer_in, answer_at}
 use Rattle.records.proofs.Bytes.{part_rest}
 use Rattle.records.proofs.RoundTrip.{answers}
 use Rattle.records.proofs.read_answer.Goals as goal
 
-fits : (c : goal.Then-room) → c.args.at + 8 ≤ length c.args.bytes.now
-fits c = leb-true _ _ (sym c.room.ensures ∙ c.if-room.true)
+-- where the test passed there is room
+fits : (at len : ℕ) {has : Bool} → has ≡ leb (at + 8) len → has ≡ true → at + 8 ≤ len
+fits at len told passed = leb-true _ _ (sym told ∙ passed)
 
 pub slice_bounds-answer_in-count : goal.slice_bounds-answer_in-count
-slice_bounds-answer_in-count c = omega (arith, fits c)
+slice_bounds-answer_in-count c = omega (arith, fits _ _ c.room.ensures c.if-room.true)
 
 pub slice_bounds-answer_in-start : goal.slice_bounds-answer_in-start
-slice_bounds-answer_in-start c = omega (arith, fits c)
+slice_bounds-answer_in-start c = omega (arith, fits _ _ c.room.ensures c.if-room.true)
 
 pub answer_in-requires : goal.answer_in-requires
 answer_in-requires c =
-    let room = leb-true _ _ (sym c.room.ensures ∙ c.if-room.true) in
-    simp (part_rest, length-drop) (omega (arith, room))
+    simp (part_rest, length-drop) (omega (arith, fits _ _ c.room.ensures c.if-room.true))
 
 pub returns-then-room : goal.returns-then-room
 unfolding answer_at

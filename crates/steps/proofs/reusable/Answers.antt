@@ -2,7 +2,7 @@
 -- Inner invariant: a place that keeps the cell is one of those yet to be looked at. The tables settle most cells before it.
 -- Assumes nothing.
 use mathlib.Core.Path.{◌≡◌, refl, sym, ap, ◌∙◌}
-use mathlib.Core.Bool.{Bool, true, false}
+use mathlib.Core.Bool.{Bool, true, false, not}
 use mathlib.Core.List.{List}
 use Prim.Native.Nat.{ℕ, ◌+◌, ◌/◌, ◌<◌}
 use native.Mathlib.Omega.{arith}
@@ -13,20 +13,20 @@ use Rattle.cells.specs.declared.Found.{Found}
 use Rattle.cells.specs.declared.Tops.{Tops}
 use Rattle.cells.specs.declared.Cell.{Cell}
 use Rattle.cells.specs.Cells.{no_cell, cells_of, empty, committed}
-use Rattle.cells.specs.Rules.{lowest_from, has_cell, newer, between, keeps}
-use Rattle.cells.specs.Tables.{all_tops, any_cell, tops_of, outdated_by, surpassed_in, held_in}
+use Rattle.cells.specs.Rules.{lowest_from, has_cell, between, keeps}
+use Rattle.cells.specs.Tables.{all_tops, any_cell, up_to, tops_of, outdated_by, surpassed_in, held_in}
 use Rattle.cells.proofs.Scan.{lowest_here, lowest_next, lowest_end}
 use Rattle.cells.proofs.Tables.{tables_tell}
 use Rattle.steps.specs.declared.Place.{Place}
 use Rattle.steps.specs.Record.{all_places, idle_place}
-use Rattle.steps.specs.Spent.{keeps_at, free, reusable}
+use Rattle.steps.specs.Spent.{has_place, keeps_at, free, reusable}
 use Rattle.steps.proofs.Spent.{place_turn, place_end, and_is, free_is}
 use Rattle.steps.proofs.Tests.{and_left, and_right}
 use Rattle.steps.proofs.Quick.{none_keep, some_keeps}
 use Rattle.steps.proofs.reusable.Goals as goal
 
 -- at a cell that is read: whether it is free settles the turn
-module _ (ws : List ℕ) (ps : List Place) (i : ℕ) (h : i < length ws / 4) (c : Cell) (e : c ≡ get_or (cells_of ws) i no_cell)
+module _ (ws : List ℕ) (ps : List Place) {i : ℕ} {c : Cell} (h : i < length ws / 4) (e : c ≡ get_or (cells_of ws) i no_cell)
     (left : reusable ps (cells_of ws) ≡ lowest_from i (free ps (cells_of ws)) (drop i (cells_of ws))) where
   here : free ps (cells_of ws) c ≡ true → Found.At i ≡ reusable ps (cells_of ws)
   here f = sym (left ∙ lowest_here ws i h (free ps (cells_of ws)) (sym (ap (free ps (cells_of ws)) e) ∙ f))
@@ -35,11 +35,15 @@ module _ (ws : List ℕ) (ps : List Place) (i : ℕ) (h : i < length ws / 4) (c 
       → reusable ps (cells_of ws) ≡ lowest_from (i + 1) (free ps (cells_of ws)) (drop (i + 1) (cells_of ws))
   next f = left ∙ lowest_next ws i h (free ps (cells_of ws)) (sym (ap (free ps (cells_of ws)) e) ∙ f)
 
--- what the table of all cells tells of a cell that is not empty
-told_old : (cs : List Cell) (x : Cell) (tops : Tops) (r t : Bool)
-    → tops.all ≡ tops_of any_cell cs → empty x ≡ false → r ≡ outdated_by tops.all cs x → r ≡ t → has_cell (newer x) cs ≡ t
-told_old cs x tops r t made filled e f =
-    sym (tables_tell cs x filled).outdated ∙ sym (ap (λ (all : List ℕ). outdated_by all cs x) made) ∙ sym e ∙ f
+-- at a cell that is committed and has a newer one, by the table of all cells: it is free if no place keeps it
+kept_or_free : (ps : List Place) (cs : List Cell) (x : Cell) (view : ℕ) (tops : Tops) {e b o k : Bool}
+    → tops ≡ record { all = tops_of any_cell cs; seen = tops_of (up_to view) cs }
+    → e ≡ empty x → e ≡ false → b ≡ committed x → b ≡ true → o ≡ outdated_by tops.all cs x → o ≡ true
+    → has_place (keeps_at cs x) ps ≡ k → free ps cs x ≡ not k
+kept_or_free ps cs x view tops made empty_is filled committed_is sealed outdated_is old kept =
+    let told = ap (λ (t : Tops). outdated_by t.all cs x) made in
+    let f = sym empty_is ∙ filled in
+    free_is ps cs x f (sym committed_is ∙ sealed) (sym (tables_tell cs x f).outdated ∙ sym told ∙ sym outdated_is ∙ old) kept
 
 pub bounds-places-oldest_open : goal.bounds-places-oldest_open
 bounds-places-oldest_open c =
@@ -54,7 +58,7 @@ pub returns-then-empty : goal.returns-then-empty
 returns-then-empty c =
     let a = c.args in
     let e = sym c.«empty».ensures ∙ c.if-empty.true in
-    here a.cells.now a.places c.cells.i (search rules) c.cell_at-c.result c.cell_at-c.ensures c.cells.invariant.1
+    here a.cells.now a.places (search rules) c.cell_at-c.ensures c.cells.invariant.1
     (free_is a.places (cells_of a.cells.now) c.cell_at-c.result e refl refl refl)
 
 pub cells-preserved-then-not-committed : goal.cells-preserved-then-not-committed
@@ -63,7 +67,7 @@ cells-preserved-then-not-committed c =
     let e = sym c.«empty».ensures ∙ c.if-empty.false in
     let f = sym c.committed.ensures ∙ c.if-not-committed.true in (
       search rules,
-      next a.cells.now a.places c.cells.i (search rules) c.cell_at-c.result c.cell_at-c.ensures c.cells.invariant.1
+      next a.cells.now a.places (search rules) c.cell_at-c.ensures c.cells.invariant.1
           (free_is a.places (cells_of a.cells.now) c.cell_at-c.result e f refl refl),
     )
 
@@ -77,7 +81,7 @@ cells-preserved-then-not-outdated_by c =
     let told = ap (λ (t : Tops). outdated_by t.all cs x) c.tops_of-tops.ensures in
     let g = sym (tables_tell cs x e).outdated ∙ sym told ∙ sym c.outdated_by.ensures ∙ c.if-not-outdated_by.true in (
       search rules,
-      next a.cells.now a.places c.cells.i (search rules) c.cell_at-c.result c.cell_at-c.ensures c.cells.invariant.1
+      next a.cells.now a.places (search rules) c.cell_at-c.ensures c.cells.invariant.1
           (free_is a.places cs x e f g refl),
     )
 
@@ -87,17 +91,15 @@ returns-then-surpassed c =
     let cs = cells_of a.cells.now in
     let x = c.cell_at-c.result in
     let filled : empty x ≡ false = sym c.«empty».ensures ∙ c.if-empty.false in
-    let sealed : committed x ≡ true = sym c.committed.ensures ∙ c.if-not-committed.false in
-    let tops = ap (λ (t : Tops). t.all) c.tops_of-tops.ensures in
-    let old = told_old cs x c.tops_of-tops.result c.outdated_by.result true tops filled c.outdated_by.ensures c.if-not-outdated_by.false in
     let o = c.oldest_open in
     let h : length a.places ≡ all_places = search rules in
     let told = ap (λ (t : Tops). surpassed_in t.seen x) c.tops_of-tops.ensures in
     let view = (get_or a.places o.result idle_place).view in
     let e = sym told ∙ sym c.surpassed.ensures ∙ c.if-surpassed.true in
     let past = and_right (ltb x.word all_tops) (has_cell (between x view) cs) (sym ((tables_tell cs x filled).surpassed view) ∙ e) in
-    here a.cells.now a.places c.cells.i (search rules) c.cell_at-c.result c.cell_at-c.ensures c.cells.invariant.1
-    (free_is a.places cs x filled sealed old (none_keep a.places o.result o.ensures h cs x past))
+    here a.cells.now a.places (search rules) c.cell_at-c.ensures c.cells.invariant.1
+    (kept_or_free a.places cs x _ c.tops_of-tops.result c.tops_of-tops.ensures c.«empty».ensures c.if-empty.false
+    c.committed.ensures c.if-not-committed.false c.outdated_by.ensures c.if-not-outdated_by.false (none_keep a.places o.result o.ensures h cs x past))
 
 pub cells-preserved-then-is_open-held_by : goal.cells-preserved-then-is_open-held_by
 cells-preserved-then-is_open-held_by c =
@@ -105,9 +107,6 @@ cells-preserved-then-is_open-held_by c =
     let cs = cells_of a.cells.now in
     let x = c.cell_at-c.result in
     let filled : empty x ≡ false = sym c.«empty».ensures ∙ c.if-empty.false in
-    let sealed : committed x ≡ true = sym c.committed.ensures ∙ c.if-not-committed.false in
-    let tops = ap (λ (t : Tops). t.all) c.tops_of-tops.ensures in
-    let old = told_old cs x c.tops_of-tops.result c.outdated_by.result true tops filled c.outdated_by.ensures c.if-not-outdated_by.false in
     let o = c.oldest_open in
     let h : length a.places ≡ all_places = search rules in
     let p = get_or a.places o.result idle_place in
@@ -119,8 +118,9 @@ cells-preserved-then-is_open-held_by c =
     let held = and_right (ltb x.word all_tops) (keeps cs x p.view) (sym ((tables_tell cs x filled).held p.view) ∙ e) in
     let kept = some_keeps a.places o.result o.ensures h cs x is_open held in (
       search rules,
-      next a.cells.now a.places c.cells.i (search rules) c.cell_at-c.result c.cell_at-c.ensures c.cells.invariant.1
-          (free_is a.places cs x filled sealed old kept),
+      next a.cells.now a.places (search rules) c.cell_at-c.ensures c.cells.invariant.1
+          (kept_or_free a.places cs x _ c.tops_of-tops.result c.tops_of-tops.ensures c.«empty».ensures c.if-empty.false
+          c.committed.ensures c.if-not-committed.false c.outdated_by.ensures c.if-not-outdated_by.false kept),
     )
 
 pub places-init : goal.places-init
@@ -139,18 +139,15 @@ cells-preserved c =
     let a = c.args in
     let cs = cells_of a.cells.now in
     let x = c.cell_at-c.result in
-    let filled : empty x ≡ false = sym c.«empty».ensures ∙ c.if-empty.false in
-    let sealed : committed x ≡ true = sym c.committed.ensures ∙ c.if-not-committed.false in
-    let tops = ap (λ (t : Tops). t.all) c.tops_of-tops.ensures in
-    let old = told_old cs x c.tops_of-tops.result c.outdated_by.result true tops filled c.outdated_by.ensures c.if-not-outdated_by.false in
     let h : length a.places ≡ all_places = search rules in
-    let q = keeps_at (cells_of a.cells.now) c.cell_at-c.result in
+    let q = keeps_at cs x in
     let is_open = sym c.is_open-in-places.ensures ∙ c.if-not-is_open.false in
     let e = and_is is_open (sym c.kept.ensures ∙ c.if-kept.true) in
     let f = c.places.invariant.1 ∙ place_turn q a.places c.places.j (omega arith) e in (
       search rules,
-      next a.cells.now a.places c.cells.i (search rules) c.cell_at-c.result c.cell_at-c.ensures c.cells.invariant.1
-          (free_is a.places cs x filled sealed old f),
+      next a.cells.now a.places (search rules) c.cell_at-c.ensures c.cells.invariant.1
+          (kept_or_free a.places cs x _ c.tops_of-tops.result c.tops_of-tops.ensures c.«empty».ensures c.if-empty.false
+          c.committed.ensures c.if-not-committed.false c.outdated_by.ensures c.if-not-outdated_by.false f),
     )
 
 pub places-preserved : goal.places-preserved
@@ -167,15 +164,12 @@ returns-in-cells c =
     let a = c.args in
     let cs = cells_of a.cells.now in
     let x = c.cell_at-c.result in
-    let filled : empty x ≡ false = sym c.«empty».ensures ∙ c.if-empty.false in
-    let sealed : committed x ≡ true = sym c.committed.ensures ∙ c.if-not-committed.false in
-    let tops = ap (λ (t : Tops). t.all) c.tops_of-tops.ensures in
-    let old = told_old cs x c.tops_of-tops.result c.outdated_by.result true tops filled c.outdated_by.ensures c.if-not-outdated_by.false in
     let h : length a.places ≡ all_places = search rules in
-    let q = keeps_at (cells_of a.cells.now) c.cell_at-c.result in
+    let q = keeps_at cs x in
     let none = c.places.invariant.1 ∙ place_end q a.places c.places.j (omega arith) in
-    here a.cells.now a.places c.cells.i (search rules) c.cell_at-c.result c.cell_at-c.ensures c.cells.invariant.1
-    (free_is a.places cs x filled sealed old none)
+    here a.cells.now a.places (search rules) c.cell_at-c.ensures c.cells.invariant.1
+    (kept_or_free a.places cs x _ c.tops_of-tops.result c.tops_of-tops.ensures c.«empty».ensures c.if-empty.false
+    c.committed.ensures c.if-not-committed.false c.outdated_by.ensures c.if-not-outdated_by.false none)
 
 pub returns : goal.returns
 returns c =

@@ -6,23 +6,17 @@ use Rattle.records.specs.declared.Call.{Call}
 use Rattle.records.specs.declared.Answer.{Answer}
 use Rattle.steps.specs.Record.{with_place, with_counts}
 use Rattle.steps.specs.Store.{lent, answered}
-use Rattle.steps.proofs.Checks.{Passed, passed, refused, handed}
+use Rattle.steps.proofs.Checks.{passed, refused, handed}
 use Rattle.steps.proofs.Board.commit.Goals as goal
 
 pub bounds-self-at : goal.bounds-self-at
-bounds-self-at c =
-    let go : Passed (lent c.args.self c.args.cells.now) (Call.Commit c.args.place) c.in-At.at = passed _ _ c.admit.ensures c.in-At.is in
-    go.below
+bounds-self-at c = (passed (lent c.args.self c.args.cells.now) (Call.Commit c.args.place) c.admit.ensures c.in-At.is).below
 
 pub overflow_add-commit : goal.overflow_add-commit
-overflow_add-commit c =
-    let go : Passed (lent c.args.self c.args.cells.now) (Call.Commit c.args.place) c.in-At.at = passed _ _ c.admit.ensures c.in-At.is in
-    omega (arith, go.commits)
+overflow_add-commit c = omega (arith, (passed (lent c.args.self c.args.cells.now) (Call.Commit c.args.place) c.admit.ensures c.in-At.is).commits)
 
 pub bounds-self-at-in-At : goal.bounds-self-at-in-At
-bounds-self-at-in-At c =
-    let go : Passed (lent c.args.self c.args.cells.now) (Call.Commit c.args.place) c.in-At.at = passed _ _ c.admit.ensures c.in-At.is in
-    go.below
+bounds-self-at-in-At c = (passed (lent c.args.self c.args.cells.now) (Call.Commit c.args.place) c.admit.ensures c.in-At.is).below
 
 pub returns-in-Refused : goal.returns-in-Refused
 returns-in-Refused c =
@@ -32,9 +26,8 @@ returns-in-Refused c =
 
 pub returns-in-At : goal.returns-in-At
 returns-in-At c =
-    let go : (let a = c.args in
-    Passed (lent a.self a.cells.now) (Call.Commit a.place) c.in-At.at) = passed _ _ c.admit.ensures c.in-At.is in
     let a = c.args in
+    let go = passed (lent a.self a.cells.now) (Call.Commit a.place) c.admit.ensures c.in-At.is in
     let n = a.self.commits + 1 in
     let words = c.stamp.ensures in
     let place = c.idle.ensures in

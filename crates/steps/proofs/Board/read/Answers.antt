@@ -4,13 +4,11 @@ use mathlib.Core.Path.{ap}
 use Rattle.records.specs.declared.Call.{Call}
 use Rattle.records.specs.declared.Answer.{Answer}
 use Rattle.steps.specs.Store.{lent, answered}
-use Rattle.steps.proofs.Checks.{Passed, passed, refused, handed}
+use Rattle.steps.proofs.Checks.{passed, refused, handed}
 use Rattle.steps.proofs.Board.read.Goals as goal
 
 pub shown-shown-requires : goal.shown-shown-requires
-shown-shown-requires c =
-    let go : Passed (lent c.args.self c.args.cells.now) (Call.Read c.args.place c.args.key) c.in-At.at = passed _ _ c.admit.ensures c.in-At.is in
-    go.below
+shown-shown-requires c = (passed (lent c.args.self c.args.cells.now) (Call.Read c.args.place c.args.key) c.admit.ensures c.in-At.is).below
 
 pub returns-in-Refused : goal.returns-in-Refused
 returns-in-Refused c =
@@ -20,8 +18,7 @@ returns-in-Refused c =
 
 pub returns-in-At : goal.returns-in-At
 returns-in-At c =
-    let go : (let a = c.args in
-    Passed (lent a.self a.cells.now) (Call.Read a.place a.key) c.in-At.at) = passed _ _ c.admit.ensures c.in-At.is in
     let a = c.args in
+    let go = passed (lent a.self a.cells.now) (Call.Read a.place a.key) c.admit.ensures c.in-At.is in
     let st = lent a.self a.cells.now in
     go.is (handed c.with-in-At.ensures (ap (λ (x : Answer). answered x st) c.shown-shown.ensures))

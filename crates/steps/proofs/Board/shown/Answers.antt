@@ -6,15 +6,14 @@ use mathlib.Core.List.{List}
 use Prim.Native.Nat.{ℕ}
 use Rattle.cells.specs.declared.Cell.{Cell}
 use Rattle.steps.specs.declared.Board.{Board}
-use Rattle.cells.specs.declared.Found.{Found}
 use Rattle.cells.specs.declared.Looked.{Looked}
 use Rattle.cells.specs.Cells.{cells_of}
-use Rattle.cells.specs.Rules.{own_at, look_of}
+use Rattle.cells.specs.Rules.{look_of}
 use Rattle.steps.specs.Spent.{held_back}
 use Rattle.steps.specs.Store.{lent}
 use Rattle.steps.specs.Step.{number_at, view_at}
 use Rattle.steps.proofs.Quick.{held_if}
-use Rattle.steps.proofs.Ends.{read_own, read_held, read_seen}
+use Rattle.steps.proofs.Ends.{looked_own, read_own, read_held, read_seen}
 use Rattle.steps.proofs.Board.shown.Goals as goal
 
 -- whether a prepared writer holds the key back, where that is asked only if a foreign cell was seen
@@ -28,24 +27,21 @@ held_of l b at key cs looked e f =
 
 pub returns-in-At : goal.returns-in-At
 returns-in-At c =
-    let found : (let a = c.args in
-    own_at a.key (number_at a.self a.at) (cells_of a.cells.now) ≡ Found.At c.in-At.i) = sym (ap (λ (l : Looked). l.own) c.look-look.ensures) ∙ c.in-At.is in
     let a = c.args in
+    let found = looked_own a.key (number_at a.self a.at) (view_at a.self a.at) (cells_of a.cells.now) c.look-look.ensures c.in-At.is in
     read_own (lent a.self a.cells.now) a.at a.key found c.cell_at-c.ensures
 
 pub returns-then-held_back_if : goal.returns-then-held_back_if
 returns-then-held_back_if c =
-    let none : (let a = c.args in
-    own_at a.key (number_at a.self a.at) (cells_of a.cells.now) ≡ Found.Nothing) = sym (ap (λ (l : Looked). l.own) c.look-look.ensures) ∙ c.in_default.is in
     let a = c.args in
+    let none = looked_own a.key (number_at a.self a.at) (view_at a.self a.at) (cells_of a.cells.now) c.look-look.ensures c.in_default.is in
     let held = held_of c.look-look.result a.self a.at a.key (cells_of a.cells.now) c.look-look.ensures c.held_back_if.ensures c.if-held_back_if.true in
     read_held (lent a.self a.cells.now) a.at a.key none held
 
 pub returns : goal.returns
 returns c =
-    let none : (let a = c.args in
-    own_at a.key (number_at a.self a.at) (cells_of a.cells.now) ≡ Found.Nothing) = sym (ap (λ (l : Looked). l.own) c.look-look.ensures) ∙ c.in_default.is in
     let a = c.args in
+    let none = looked_own a.key (number_at a.self a.at) (view_at a.self a.at) (cells_of a.cells.now) c.look-look.ensures c.in_default.is in
     let held = held_of c.look-look.result a.self a.at a.key (cells_of a.cells.now) c.look-look.ensures c.held_back_if.ensures c.if-held_back_if.false in
     let newest = ap (λ (l : Looked). l.newest) c.look-look.ensures in
     read_seen (lent a.self a.cells.now) a.at a.key none held newest

@@ -6,18 +6,14 @@ use Rattle.records.specs.declared.Call.{Call}
 use Rattle.records.specs.declared.Answer.{Answer}
 use Rattle.steps.specs.Record.{with_place, with_counts}
 use Rattle.steps.specs.Store.{lent, answered}
-use Rattle.steps.proofs.Checks.{Passed, passed, refused, handed}
+use Rattle.steps.proofs.Checks.{passed, refused, handed}
 use Rattle.steps.proofs.Board.start.Goals as goal
 
 pub overflow_add-next : goal.overflow_add-next
-overflow_add-next c =
-    let go : Passed (lent c.args.self c.args.cells.now) (Call.Start c.args.place) c.in-At.at = passed _ _ c.admit.ensures c.in-At.is in
-    omega (arith, go.starts)
+overflow_add-next c = omega (arith, (passed (lent c.args.self c.args.cells.now) (Call.Start c.args.place) c.admit.ensures c.in-At.is).starts)
 
 pub bounds-self-at : goal.bounds-self-at
-bounds-self-at c =
-    let go : Passed (lent c.args.self c.args.cells.now) (Call.Start c.args.place) c.in-At.at = passed _ _ c.admit.ensures c.in-At.is in
-    go.below
+bounds-self-at c = (passed (lent c.args.self c.args.cells.now) (Call.Start c.args.place) c.admit.ensures c.in-At.is).below
 
 pub returns-in-Refused : goal.returns-in-Refused
 returns-in-Refused c =
@@ -27,9 +23,8 @@ returns-in-Refused c =
 
 pub returns-in-At : goal.returns-in-At
 returns-in-At c =
-    let go : (let a = c.args in
-    Passed (lent a.self a.cells.now) (Call.Start a.place) c.in-At.at) = passed _ _ c.admit.ensures c.in-At.is in
     let a = c.args in
+    let go = passed (lent a.self a.cells.now) (Call.Start a.place) c.admit.ensures c.in-At.is in
     let n = a.self.starts + 1 in
     let place = c.opened.ensures in
     go.is (handed c.with-in-At.ensures

@@ -2,12 +2,13 @@
 -- Assumes nothing.
 use Rattle.records.specs.declared.Call.{Call}
 use Rattle.steps.specs.Store.{lent}
-use Rattle.steps.proofs.Checks.{Passed, passed, refused}
+use Rattle.steps.proofs.Checks.{passed, refused}
 use Rattle.steps.proofs.Board.update.Goals as goal
 
 pub updated-requires : goal.updated-requires
 updated-requires c =
-    let go : Passed (lent c.args.self c.args.cells.now) (Call.Update c.args.place c.args.key c.args.value) c.in-At.at = passed _ _ c.admit.ensures c.in-At.is in
+    let a = c.args in
+    let go = passed (lent a.self a.cells.now) (Call.Update a.place a.key a.value) c.admit.ensures c.in-At.is in
     (go.below, go.keyed)
 
 pub returns-in-Refused : goal.returns-in-Refused
@@ -18,6 +19,6 @@ returns-in-Refused c =
 
 pub returns-in-At : goal.returns-in-At
 returns-in-At c =
-    let go : (let a = c.args in
-    Passed (lent a.self a.cells.now) (Call.Update a.place a.key a.value) c.in-At.at) = passed _ _ c.admit.ensures c.in-At.is in
+    let a = c.args in
+    let go = passed (lent a.self a.cells.now) (Call.Update a.place a.key a.value) c.admit.ensures c.in-At.is in
     go.is c.updated.ensures

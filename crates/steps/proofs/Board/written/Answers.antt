@@ -1,9 +1,6 @@
 -- `Board::written` meets its contract.
 -- Assumes nothing.
-use mathlib.Core.Path.{◌≡◌, sym, ◌∙◌}
-use Rattle.cells.specs.declared.Found.{Found}
-use Rattle.cells.specs.Cells.{cells_of}
-use Rattle.steps.specs.Spent.{reusable}
+use mathlib.Core.Path.{sym, ◌∙◌}
 use Rattle.steps.specs.Store.{lent}
 use Rattle.steps.proofs.Ends.{write_free, write_full}
 use Rattle.steps.proofs.Board.written.Goals as goal
@@ -16,7 +13,5 @@ returns-in_default c =
 
 pub returns : goal.returns
 returns c =
-    let room : (let a = c.args in
-    reusable a.self.places (cells_of a.cells.now) ≡ Found.At c.in-At.i) = sym c.reusable-free.ensures ∙ c.in-At.is in
     let a = c.args in
-    write_free (lent a.self a.cells.now) a.number a.key a.value room c.put_cell.ensures c.with-2.ensures
+    write_free (lent a.self a.cells.now) a.number a.key a.value (sym c.reusable-free.ensures ∙ c.in-At.is) c.put_cell.ensures c.with-2.ensures
