@@ -2,6 +2,7 @@
 --     call_found, answer_found    what reading finds, from the mark, the kind or number, the place byte and the numbers behind them
 --     as_written                  what writing gives, from the code's two tests
 -- Assumes nothing.
+use Rattle.std.specs.Prelude.{Some, None, Ok, Err}
 use mathlib.Core.Path.{◌≡◌, refl, sym, ap, ◌∙◌, subst}
 use mathlib.Core.Bool.{Bool, true, cond, ◌&&◌, and_assoc}
 use mathlib.Core.List.{List, [], ◌∷◌, ◌++◌}
@@ -12,12 +13,10 @@ use native.Mathlib.Omega.{arith}
 use borrow.Author.Tests.{eq-eqb}
 use lib.Dec.{eqb, leb}
 use lib.ListN.{length, get_or, take, drop, get_or-eq_default}
-use Rattle.records.specs.declared.Answer.{Answer}
-use Rattle.records.specs.declared.AnswerRead.{AnswerRead}
+use Rattle.records.specs.declared.Refusal.{Refusal}
 use Rattle.records.specs.declared.Call.{Call}
-use Rattle.records.specs.declared.CallRead.{CallRead}
 use Rattle.records.specs.declared.Reply.{Reply}
-use Rattle.records.specs.Answers.{number_of, value_of, place_of}
+use Rattle.records.specs.Answers.{Answer, number_of, value_of, place_of}
 use Rattle.records.specs.Format.{call_bytes, kind_of, key_of, new_value_of, calls_of, call_of, call_record, call_from, call_in}
 use Rattle.records.specs.Format.{answer_bytes, answers_of, answer_of, answer_record, reply_from, answer_in}
 use Rattle.records.specs.Format.{bytes_of, number_in, same_bytes, put_at, wrote, written}
@@ -37,8 +36,8 @@ no_kind kind place key value a b c d e =
 pub above : {k n : ℕ} → k ≤ n → (n ≡ k → ⊥) → suc k ≤ n
 above h e = omega arith
 
-pub no_answer : (number value : ℕ) → 12 ≤ number → answer_of number value ≡ Answer.Record
-no_answer number value h = get_or-eq_default (answers_of value) Answer.Record h
+pub no_answer : (number value : ℕ) → 12 ≤ number → answer_of number value ≡ Err Refusal.Record
+no_answer number value h = get_or-eq_default (answers_of value) (Err Refusal.Record) h
 
 -- what holds of each element of a list, and of the default, holds of the one at an index
 abbrev pub All : {A : Type 0} → (A → Type 0) → List A → Type 0
@@ -64,7 +63,7 @@ call_small kind place key value k v =
 pub answer_small : (number value : ℕ) → value < 256 ^ 4 → value_of (answer_of number value) < 256 ^ 4
 answer_small number value v =
     let z : 0 < 256 ^ 4 = omega arith in
-    all_at (λ (a : Answer). value_of a < 256 ^ 4) (answers_of value) Answer.Record
+    all_at (λ (a : Answer). value_of a < 256 ^ 4) (answers_of value) (Err Refusal.Record)
     (v, (z, (z, (z, (z, (z, (z, (z, (z, (z, (z, (z, tt)))))))))))) z number
 
 -- the head of a record: the mark, the kind or number and the place byte
@@ -109,7 +108,7 @@ module _ (s : List ℕ) (byte : (i : ℕ) → get_or s i 0 < 256) where
       c ≡ call_of (get_or s 2 0) place key value →
       m ≡ (eqb (get_or s 0 0) 0x43 && eqb (get_or s 1 0) 0x4C) →
       n ≡ (eqb (get_or s 2 0) (kind_of c) && (eqb key (key_of c) && eqb value (new_value_of c))) →
-      (m && n) ≡ t → cond t (CallRead.Good c) CallRead.Record ≡ call_in (take 10 s)
+      (m && n) ≡ t → cond t (Some c) None ≡ call_in (take 10 s)
   unfolding call_in call_from
   call_found h {place} {key} {value} {c} {m} {n} {t} k v p e marked named told =
       let k' : key ≡ number_in (gets 2 s 4) = k ∙ ap number_in (part_gets 2 s 4 (omega arith)) in
@@ -119,7 +118,7 @@ module _ (s : List ℕ) (byte : (i : ℕ) → get_or s i 0 < 256) where
       let small : Small (get_or s 3 0) C = call_small (get_or s 2 0) (get_or s 3 0) _ _ (field_below 2 4) (field_below 4 6) in
       let tested = call_test C small in
       let passes : t ≡ same_bytes (gets 10 s 0) (call_record C) = cc in
-      let found : cond t (CallRead.Good c) CallRead.Record ≡ call_in (gets 10 s 0) = cc in
+      let found : cond t (Some c) None ≡ call_in (gets 10 s 0) = cc in
       found ∙ sym (ap call_in (part_gets 10 s 0 h))
 
   -- eight bytes are the record of the answer that they name exactly if the code's tests pass
@@ -139,7 +138,7 @@ module _ (s : List ℕ) (byte : (i : ℕ) → get_or s i 0 < 256) where
       m ≡ (eqb (get_or s 0 0) 0x41 && eqb (get_or s 1 0) 0x4E) →
       n ≡ (eqb (get_or s 2 0) (number_of a) && eqb value (value_of a)) →
       (m && n) ≡ t →
-      cond t (AnswerRead.Good (record { place = place; answer = a })) AnswerRead.Record ≡ answer_in (take 8 s)
+      cond t (Some (record { place = place; answer = a })) None ≡ answer_in (take 8 s)
   unfolding answer_in reply_from
   answer_found h {place} {value} {a} {m} {n} {t} v p e marked named told =
       let v' : value ≡ number_in (gets 4 s 4) = v ∙ ap number_in (part_gets 4 s 4 (omega arith)) in
@@ -148,7 +147,7 @@ module _ (s : List ℕ) (byte : (i : ℕ) → get_or s i 0 < 256) where
       let same : a ≡ A = cc in
       let tested = answer_test A (answer_small (get_or s 2 0) _ (field_below 4 4)) in
       let passes : t ≡ same_bytes (gets 8 s 0) (answer_record (record { place = get_or s 3 0; answer = A })) = cc in
-      let found : cond t (AnswerRead.Good r) AnswerRead.Record ≡ answer_in (gets 8 s 0) = cc in
+      let found : cond t (Some r) None ≡ answer_in (gets 8 s 0) = cc in
       found ∙ sym (ap answer_in (part_gets 8 s 0 h))
 
 -- a call's record has ten bytes, an answer's eight
@@ -163,7 +162,7 @@ answer_length r = refl
 -- what writing a record of n bytes gives, from what the code has tested
 pub as_written : (bs : List ℕ) (at : ℕ) (rec : List ℕ) {has fits room t : Bool} {n : ℕ} →
     length rec ≡ n → fits ≡ has → room ≡ leb (at + n) (length bs) → (fits && room) ≡ t →
-    cond t (wrote (Answer.Ok 0) (put_at bs at rec)) (wrote Answer.Record bs) ≡ written has bs at rec
+    cond t (wrote (Ok 0) (put_at bs at rec)) (wrote (Err Refusal.Record) bs) ≡ written has bs at rec
 as_written bs at rec {has} {fits} {room} {t} {n} size e f told =
     let g : t ≡ (has && leb (at + length rec) (length bs)) = cc in
-    ap (λ (s : Bool). cond s (wrote (Answer.Ok 0) (put_at bs at rec)) (wrote Answer.Record bs)) g
+    ap (λ (s : Bool). cond s (wrote (Ok 0) (put_at bs at rec)) (wrote (Err Refusal.Record) bs)) g

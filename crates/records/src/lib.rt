@@ -8,7 +8,7 @@ ghost use Rattle.records.specs.Format.{call_bytes, call_record, kind_of, key_of,
 ghost use Rattle.records.specs.Format.{answer_bytes, answer_record, call_of, call_in, call_at, answer_of, answer_in, answer_at};
 ghost use Rattle.records.specs.Format.{goes_in, put_at, wrote, written_call, written_answer};
 
-#[derive(Clone, Copy)]
+#[derive(Clone, Copy, Debug, PartialEq, Eq)]
 pub enum Call {
     Start { place: u32 },
     Read { place: u32, key: u32 },
@@ -18,42 +18,31 @@ pub enum Call {
     Rollback { place: u32 },
 }
 
-#[derive(Clone, Copy)]
-pub enum Answer {
-    Ok(u32),
-    Board,
-    Place,
-    Busy,
-    Idle,
-    Worn,
-    Spoiled,
-    Held,
-    Key,
-    Conflict,
-    Prepared,
-    Full,
-    Record,
+// Why a call is refused, with the number that document 01 gives it.
+#[derive(Clone, Copy, Debug, PartialEq, Eq)]
+pub enum Refusal {
+    Board = 1,
+    Place = 2,
+    Busy = 3,
+    Idle = 4,
+    Worn = 5,
+    Spoiled = 6,
+    Held = 7,
+    Key = 8,
+    Conflict = 9,
+    Prepared = 10,
+    Full = 11,
+    Record = 12,
 }
 
+// What comes back: OK with a value, or a refusal.
+pub type Answer = Result<u32, Refusal>;
+
 // An answer with the place byte of its record.
-#[derive(Clone, Copy)]
+#[derive(Clone, Copy, Debug, PartialEq, Eq)]
 pub struct Reply {
     pub place: u32,
     pub answer: Answer,
-}
-
-// What reading a call answers: OK with the call that stands at the offset, or RECORD.
-#[derive(Clone, Copy)]
-pub enum CallRead {
-    Good(Call),
-    Record,
-}
-
-// What reading an answer answers: OK with the answer that stands at the offset and its place, or RECORD.
-#[derive(Clone, Copy)]
-pub enum AnswerRead {
-    Good(Reply),
-    Record,
 }
 
 // A call's record is ten bytes, an answer's eight.
@@ -75,19 +64,8 @@ pub fn number(a: Answer) -> u8
     ensures { result ≡ number_of a }
 {
     match a {
-        Answer::Ok(_) => 0,
-        Answer::Board => 1,
-        Answer::Place => 2,
-        Answer::Busy => 3,
-        Answer::Idle => 4,
-        Answer::Worn => 5,
-        Answer::Spoiled => 6,
-        Answer::Held => 7,
-        Answer::Key => 8,
-        Answer::Conflict => 9,
-        Answer::Prepared => 10,
-        Answer::Full => 11,
-        Answer::Record => 12,
+        Ok(_) => 0,
+        Err(refusal) => refusal as u8,
     }
 }
 
@@ -95,21 +73,7 @@ pub fn number(a: Answer) -> u8
 pub fn value(a: Answer) -> u32
     ensures { result ≡ value_of a }
 {
-    match a {
-        Answer::Ok(v) => v,
-        Answer::Board => 0,
-        Answer::Place => 0,
-        Answer::Busy => 0,
-        Answer::Idle => 0,
-        Answer::Worn => 0,
-        Answer::Spoiled => 0,
-        Answer::Held => 0,
-        Answer::Key => 0,
-        Answer::Conflict => 0,
-        Answer::Prepared => 0,
-        Answer::Full => 0,
-        Answer::Record => 0,
-    }
+    a.unwrap_or(0)
 }
 
 // The place that a call names.
@@ -117,38 +81,34 @@ pub fn place_of(c: Call) -> u32
     ensures { result ≡ place_of c }
 {
     match c {
-        Call::Start { place } => place,
-        Call::Read { place, key: _ } => place,
-        Call::Update {
-            place,
-            key: _,
-            value: _,
-        } => place,
-        Call::Prepare { place } => place,
-        Call::Commit { place } => place,
-        Call::Rollback { place } => place,
+        Call::Start { place }
+        | Call::Read { place, .. }
+        | Call::Update { place, .. }
+        | Call::Prepare { place }
+        | Call::Commit { place }
+        | Call::Rollback { place } => place,
     }
 }
 
 // Takes the call record at an offset: OK with the call, or RECORD.
-pub fn read_call(bytes: &[u8], at: usize) -> CallRead
+pub fn read_call(bytes: &[u8], at: usize) -> Option<Call>
     ensures { result ≡ call_at bytes.now at }
 {
     if room(bytes.len(), at, CALL_BYTES) {
         call_in(&bytes[at..])
     } else {
-        CallRead::Record
+        None
     }
 }
 
 // Takes the answer record at an offset: OK with the answer and its place, or RECORD.
-pub fn read_answer(bytes: &[u8], at: usize) -> AnswerRead
+pub fn read_answer(bytes: &[u8], at: usize) -> Option<Reply>
     ensures { result ≡ answer_at bytes.now at }
 {
     if room(bytes.len(), at, ANSWER_BYTES) {
         answer_in(&bytes[at..])
     } else {
-        AnswerRead::Record
+        None
     }
 }
 
@@ -159,9 +119,9 @@ pub fn write_call(bytes: &mut [u8], at: usize, call: Call) -> Answer
     let fits = goes_in(place_of(call), key_of(call), new_value_of(call));
     if fits & room(bytes.len(), at, CALL_BYTES) {
         put_call(&mut bytes[at..], call);
-        Answer::Ok(0)
+        Ok(0)
     } else {
-        Answer::Record
+        Err(Refusal::Record)
     }
 }
 
@@ -173,9 +133,9 @@ pub fn write_answer(bytes: &mut [u8], at: usize, reply: Reply) -> Answer
     let fits = goes_in(reply.place, 0, value(answer));
     if fits & room(bytes.len(), at, ANSWER_BYTES) {
         put_answer(&mut bytes[at..], reply);
-        Answer::Ok(0)
+        Ok(0)
     } else {
-        Answer::Record
+        Err(Refusal::Record)
     }
 }
 
@@ -184,16 +144,12 @@ fn kind_of(c: Call) -> u8
     ensures { result ≡ kind_of c }
 {
     match c {
-        Call::Start { place: _ } => 1,
-        Call::Read { place: _, key: _ } => 2,
-        Call::Update {
-            place: _,
-            key: _,
-            value: _,
-        } => 3,
-        Call::Prepare { place: _ } => 4,
-        Call::Commit { place: _ } => 5,
-        Call::Rollback { place: _ } => 6,
+        Call::Start { .. } => 1,
+        Call::Read { .. } => 2,
+        Call::Update { .. } => 3,
+        Call::Prepare { .. } => 4,
+        Call::Commit { .. } => 5,
+        Call::Rollback { .. } => 6,
     }
 }
 
@@ -202,16 +158,8 @@ pub fn key_of(c: Call) -> u32
     ensures { result ≡ key_of c }
 {
     match c {
-        Call::Start { place: _ } => 0,
-        Call::Read { place: _, key } => key,
-        Call::Update {
-            place: _,
-            key,
-            value: _,
-        } => key,
-        Call::Prepare { place: _ } => 0,
-        Call::Commit { place: _ } => 0,
-        Call::Rollback { place: _ } => 0,
+        Call::Read { key, .. } | Call::Update { key, .. } => key,
+        _ => 0,
     }
 }
 
@@ -220,16 +168,8 @@ fn new_value_of(c: Call) -> u32
     ensures { result ≡ new_value_of c }
 {
     match c {
-        Call::Start { place: _ } => 0,
-        Call::Read { place: _, key: _ } => 0,
-        Call::Update {
-            place: _,
-            key: _,
-            value,
-        } => value,
-        Call::Prepare { place: _ } => 0,
-        Call::Commit { place: _ } => 0,
-        Call::Rollback { place: _ } => 0,
+        Call::Update { value, .. } => value,
+        _ => 0,
     }
 }
 
@@ -311,7 +251,7 @@ fn low(n: u32) -> u8
 }
 
 // The call whose record the first ten bytes are.
-fn call_in(s: &[u8]) -> CallRead
+fn call_in(s: &[u8]) -> Option<Call>
     requires { call_bytes ≤ length s.now }
     ensures { result ≡ call_in (take call_bytes s.now) }
 {
@@ -321,14 +261,14 @@ fn call_in(s: &[u8]) -> CallRead
     let value = four(s, 6);
     let call = call_of(kind, place, key, value);
     if marked(s, MARK_C, MARK_L) & call_named(call, kind, key, value) {
-        CallRead::Good(call)
+        Some(call)
     } else {
-        CallRead::Record
+        None
     }
 }
 
 // The answer whose record the first eight bytes are.
-fn answer_in(s: &[u8]) -> AnswerRead
+fn answer_in(s: &[u8]) -> Option<Reply>
     requires { answer_bytes ≤ length s.now }
     ensures { result ≡ answer_in (take answer_bytes s.now) }
 {
@@ -337,12 +277,9 @@ fn answer_in(s: &[u8]) -> AnswerRead
     let val = four(s, 4);
     let answer = answer_of(no, val);
     if marked(s, MARK_A, MARK_N) & answer_named(answer, no, val) {
-        AnswerRead::Good(Reply {
-            place: place,
-            answer: answer,
-        })
+        Some(Reply { place, answer })
     } else {
-        AnswerRead::Record
+        None
     }
 }
 
@@ -351,19 +288,12 @@ fn call_of(kind: u8, place: u32, key: u32, value: u32) -> Call
     ensures { result ≡ call_of kind place key value }
 {
     match kind {
-        1 => Call::Start { place: place },
-        2 => Call::Read {
-            place: place,
-            key: key,
-        },
-        3 => Call::Update {
-            place: place,
-            key: key,
-            value: value,
-        },
-        4 => Call::Prepare { place: place },
-        5 => Call::Commit { place: place },
-        _ => Call::Rollback { place: place },
+        1 => Call::Start { place },
+        2 => Call::Read { place, key },
+        3 => Call::Update { place, key, value },
+        4 => Call::Prepare { place },
+        5 => Call::Commit { place },
+        _ => Call::Rollback { place },
     }
 }
 
@@ -372,19 +302,19 @@ fn answer_of(number: u8, value: u32) -> Answer
     ensures { result ≡ answer_of number value }
 {
     match number {
-        0 => Answer::Ok(value),
-        1 => Answer::Board,
-        2 => Answer::Place,
-        3 => Answer::Busy,
-        4 => Answer::Idle,
-        5 => Answer::Worn,
-        6 => Answer::Spoiled,
-        7 => Answer::Held,
-        8 => Answer::Key,
-        9 => Answer::Conflict,
-        10 => Answer::Prepared,
-        11 => Answer::Full,
-        _ => Answer::Record,
+        0 => Ok(value),
+        1 => Err(Refusal::Board),
+        2 => Err(Refusal::Place),
+        3 => Err(Refusal::Busy),
+        4 => Err(Refusal::Idle),
+        5 => Err(Refusal::Worn),
+        6 => Err(Refusal::Spoiled),
+        7 => Err(Refusal::Held),
+        8 => Err(Refusal::Key),
+        9 => Err(Refusal::Conflict),
+        10 => Err(Refusal::Prepared),
+        11 => Err(Refusal::Full),
+        _ => Err(Refusal::Record),
     }
 }
 

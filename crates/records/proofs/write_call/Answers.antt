@@ -1,3 +1,4 @@
+use Rattle.std.specs.Prelude.{Ok, Err}
 use mathlib.Core.Path.{◌≡◌, ap, ◌∙◌}
 use mathlib.Core.Bool.{Bool, cond, ◌&&◌}
 use mathlib.Core.List.{List}
@@ -5,7 +6,7 @@ use Prim.Native.Nat.{ℕ, ◌+◌}
 use native.Mathlib.Omega.{arith}
 use lib.Dec.{leb}
 use lib.ListN.{length, length-drop}
-use Rattle.records.specs.declared.Answer.{Answer}
+use Rattle.records.specs.declared.Refusal.{Refusal}
 use Rattle.records.specs.Format.{call_fits, call_record, put_at, wrote, written_call}
 use Rattle.records.proofs.Bytes.{part_rest, put_part, has_room}
 use Rattle.records.proofs.Fields.{call_length, as_written}
@@ -15,7 +16,7 @@ use Rattle.records.proofs.write_call.Goals as goal
 -- what writing gives, by the outcome of the two tests
 gives : (bs : List ℕ) (at : ℕ) (call : Call) {fits has t : Bool} → fits ≡ call_fits call → has ≡ leb (at + 10) (length bs)
     → (fits && has) ≡ t
-    → cond t (wrote (Answer.Ok 0) (put_at bs at (call_record call))) (wrote Answer.Record bs) ≡ written_call bs at call
+    → cond t (wrote (Ok 0) (put_at bs at (call_record call))) (wrote (Err Refusal.Record) bs) ≡ written_call bs at call
 unfolding written_call
 gives bs at call goes told tested = as_written bs at (call_record call) (call_length call) goes told tested
 
@@ -33,7 +34,7 @@ pub returns-then-fits-room : goal.returns-then-fits-room
 returns-then-fits-room c =
     let a = c.args in
     let put = c.put_call in
-    ap (λ (l : List ℕ). wrote (Answer.Ok 0) l)
+    ap (λ (l : List ℕ). wrote (Ok 0) l)
     (put_part a.bytes.now a.at (call_record a.call) put.new.s put.ensures)
     ∙ gives a.bytes.now a.at a.call (cc (c.goes_in-fits.ensures, c.new_value_of.ensures, c.key_of.ensures, c.place_of.ensures)) c.room.ensures
     c.if-fits-room.true
