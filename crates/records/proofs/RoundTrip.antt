@@ -24,10 +24,11 @@ use Rattle.records.specs.Answers.{Answer, number_of, value_of, place_of, read_nu
 use Rattle.records.specs.Format.{call_bytes, kind_of, key_of, new_value_of, call_fits, call_of, call_record, call_from, call_in, call_at}
 use Rattle.records.specs.Format.{answer_bytes, reply_fits, answer_of, answer_record, reply_from, answer_in, answer_at}
 use Rattle.records.specs.Format.{bytes_of, number_in, same_bytes, goes_in, put_at, Written, wrote, written, written_call, written_answer}
+use Rattle.records.specs.Kinds.{call_long, answer_long}
 use Rattle.records.specs.Promises.{Stands, Promises}
 use Rattle.records.proofs.Bytes.{both, and_left, and_right, same_equal, same_self, bytes_back, bytes_below, bytes_all, bytes_length}
 use Rattle.records.proofs.Bytes.{put_there, put_before, put_behind, put_length, put_same}
-use Rattle.records.proofs.Fields.{Small, call_small, answer_small, call_length, answer_length}
+use Rattle.records.proofs.Fields.{Small, call_small, answer_small}
 
 -- THE NUMBERS OF A RECORD
 
@@ -298,12 +299,21 @@ module _ {A : Type 0} (size : ℕ) (has : A → Bool) (rec : A → List ℕ) (fr
 -- for calls
 pub calls : Promises call_bytes call_fits call_record call_at written_call
 unfolding call_at call_in written_call
-calls = promises call_bytes call_fits call_record call_from (omega arith) call_length call_back call_sound
+calls = promises call_bytes call_fits call_record call_from (omega arith) call_long call_back call_sound
 
 -- for answers with their place
 pub answers : Promises answer_bytes reply_fits answer_record answer_at written_answer
 unfolding answer_at answer_in written_answer
-answers = promises answer_bytes reply_fits answer_record reply_from (omega arith) answer_length reply_back reply_sound
+answers = promises answer_bytes reply_fits answer_record reply_from (omega arith) answer_long reply_back reply_sound
+
+-- no call stands in fewer than ten bytes, and no answer in fewer than eight
+pub short_call : (bs : List ℕ) → length bs < call_bytes → call_in (take call_bytes bs) ≡ None
+unfolding call_at
+short_call bs h = calls.short bs 0 (omega (arith, h))
+
+pub short_answer : (bs : List ℕ) → length bs < answer_bytes → answer_in (take answer_bytes bs) ≡ None
+unfolding answer_at
+short_answer bs h = answers.short bs 0 (omega (arith, h))
 
 -- two outcomes of writing that meet the contract are the same
 pub written_once : (w : Written) (a b : Answer) (bs cs : List ℕ) → wrote a bs ≡ w → wrote b cs ≡ w → (a ≡ b) × (bs ≡ cs)

@@ -1,6 +1,6 @@
 -- What comes back: the number and the value of each answer, as document 01's table has them; and what a call names.
 -- Assumes nothing.
-use Rattle.std.specs.Prelude.{ℕ, Option, Some, None, Result, Ok, Err}
+use Rattle.std.specs.Prelude.{ℕ, List, codes, Option, Some, None, Result, Ok, Err}
 use Rattle.records.specs.declared.Call.{Call}
 use Rattle.records.specs.declared.Refusal.{Refusal}
 
@@ -23,6 +23,21 @@ number_of (Err Refusal.Conflict) = 9
 number_of (Err Refusal.Prepared) = 10
 number_of (Err Refusal.Full) = 11
 number_of (Err Refusal.Record) = 12
+
+-- the name of a refusal
+abbrev pub name_of : Refusal → List ℕ
+name_of Refusal.Board = codes "BOARD"
+name_of Refusal.Place = codes "PLACE"
+name_of Refusal.Busy = codes "BUSY"
+name_of Refusal.Idle = codes "IDLE"
+name_of Refusal.Worn = codes "WORN"
+name_of Refusal.Spoiled = codes "SPOILED"
+name_of Refusal.Held = codes "HELD"
+name_of Refusal.Key = codes "KEY"
+name_of Refusal.Conflict = codes "CONFLICT"
+name_of Refusal.Prepared = codes "PREPARED"
+name_of Refusal.Full = codes "FULL"
+name_of Refusal.Record = codes "RECORD"
 
 -- every refusal returns value 0
 abbrev pub value_of : Answer → ℕ
