@@ -8,9 +8,8 @@ use native.Mathlib.Omega.{arith}
 use borrow.Author.Tests.{ltb-true, ltb-false, ne_eqb}
 use lib.Dec.{ltb}
 use lib.ListN.{length, get_or, drop, get_or-eq_default}
+use Rattle.std.specs.Prelude.{Option, Some, None}
 use Rattle.cells.specs.declared.Cell.{Cell}
-use Rattle.cells.specs.declared.Found.{Found}
-use Rattle.cells.specs.declared.Found.TheVariants.{At, Nothing}
 use Rattle.cells.specs.declared.Looked.{Looked}
 use Rattle.cells.specs.Cells.{no_cell, cells_of, of_key, own, foreign, seen_by}
 use Rattle.cells.specs.Rules.{lowest_from, mine, own_at, has_cell, has_foreign, clashes, blocks, conflict, newest, visible, newest_seen}
@@ -56,24 +55,24 @@ module _ (key number view : ℕ) where
 -- WHAT THE PASS COMES TO
 
 -- the first found, otherwise the second
-abbrev or_found : Found → Found → Found
-or_found (At j) f = At j
-or_found Nothing f = f
+abbrev or_found : Option ℕ → Option ℕ → Option ℕ
+or_found (Some j) f = Some j
+or_found None f = f
 
-or_nothing : (f : Found) → f ≡ or_found f Nothing
-or_nothing (At j) = refl
-or_nothing Nothing = refl
+or_nothing : (f : Option ℕ) → f ≡ or_found f None
+or_nothing (Some j) = refl
+or_nothing None = refl
 
 -- one more cell, of the key or not: what each question knows after it
-own_step : (t u : Bool) (a b : Looked) (i : ℕ) (f : Found) → a.own ≡ lowest_of b.own u i
-    → or_found (pick_look t a b).own f ≡ or_found b.own (pick_found (t && u) (At i) f)
+own_step : (t u : Bool) (a b : Looked) (i : ℕ) (f : Option ℕ) → a.own ≡ lowest_of b.own u i
+    → or_found (pick_look t a b).own f ≡ or_found b.own (pick_found (t && u) (Some i) f)
 own_step false u a b i f e = refl
-own_step true u a b i f e = ap (λ (o : Found). or_found o f) e ∙ taken b.own u
+own_step true u a b i f e = ap (λ (o : Option ℕ). or_found o f) e ∙ taken b.own u
   where
-    taken : (o : Found) (u : Bool) → or_found (lowest_of o u i) f ≡ or_found o (pick_found u (At i) f)
-    taken (At j) u = refl
-    taken Nothing true = refl
-    taken Nothing false = refl
+    taken : (o : Option ℕ) (u : Bool) → or_found (lowest_of o u i) f ≡ or_found o (pick_found u (Some i) f)
+    taken (Some j) u = refl
+    taken None true = refl
+    taken None false = refl
 
 abbrev pick_bool : Bool → Bool → Bool → Bool
 pick_bool true a b = a

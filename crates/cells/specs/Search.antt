@@ -1,9 +1,7 @@
 -- What the quick scans are made of. No promise speaks of these: each scan is proved equal to its rule in Rules.
 -- Assumes nothing.
-use Rattle.std.specs.Prelude.{◌≡◌, Bool, true, false, ◌&&◌, ◌||◌, List, [], ◌∷◌, ℕ, ◌+◌, ◌≤◌, ◌<◌, eqb, ltb, length, get_or}
+use Rattle.std.specs.Prelude.{◌≡◌, Bool, true, false, ◌&&◌, ◌||◌, List, [], ◌∷◌, ℕ, ◌+◌, ◌≤◌, ◌<◌, eqb, ltb, length, get_or, Option, Some, None}
 use Rattle.cells.specs.declared.Cell.{Cell}
-use Rattle.cells.specs.declared.Found.{Found}
-use Rattle.cells.specs.declared.Found.TheVariants.{At, Nothing}
 use Rattle.cells.specs.declared.Looked.{Looked}
 use Rattle.cells.specs.Cells.{no_cell, of_key, own, foreign, seen_by}
 use Rattle.cells.specs.Rules.{pick_found, pick_cell, clashes}
@@ -29,9 +27,9 @@ pub record NextAt (p : Cell → Bool) (from : ℕ) (cs : List Cell) (r : ℕ) : 
   pub found : r < length cs → p (get_or cs r no_cell) ≡ true
 
 -- the lowest so far, after cell i that passes the test or not
-abbrev pub lowest_of : Found → Bool → ℕ → Found
-lowest_of (At j) passes i = At j
-lowest_of Nothing passes i = pick_found passes (At i) Nothing
+abbrev pub lowest_of : Option ℕ → Bool → ℕ → Option ℕ
+lowest_of (Some j) passes i = Some j
+lowest_of None passes i = pick_found passes (Some i) None
 
 -- the newest that the view sees so far, after cell c
 abbrev pub newest_of : ℕ → Cell → Cell → Cell
@@ -39,7 +37,7 @@ newest_of view best c = pick_cell (seen_by view c && ltb best.commit c.commit) c
 
 -- nothing seen yet
 abbrev pub no_look : Looked
-no_look = record { own = Nothing; foreign = false; conflict = false; newest = no_cell }
+no_look = record { own = None; foreign = false; conflict = false; newest = no_cell }
 
 -- what is known after one more cell of the key
 abbrev pub look_turn : ℕ → ℕ → ℕ → Cell → Looked → Looked

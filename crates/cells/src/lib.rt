@@ -7,7 +7,7 @@ ghost use Rattle.cells.specs.Cells.{no_cell, cells_of, with_cells, count_of, who
 ghost use Rattle.cells.specs.Cells.{empty, of_key, committed, own, foreign, seen_by};
 ghost use Rattle.cells.specs.Rules.{foreign_with, has_cell, keeps, look_of};
 ghost use Rattle.cells.specs.Rules.{foreign_of, clashes, valued, stamped, wiped, newer, between};
-ghost use Rattle.cells.specs.Search.{part_of, part_is, four_have, NextAt, lowest_of, newest_of, no_look, look_turn};
+ghost use Rattle.cells.specs.Search.{part_of, part_is, four_have, NextAt, newest_of, no_look, look_turn};
 ghost use Rattle.cells.specs.Tables.{raised, tops_of, any_cell, up_to, outdated_by, surpassed_in, held_in};
 
 #[derive(Clone, Copy)]
@@ -18,17 +18,10 @@ pub struct Cell {
     pub commit: u32,
 }
 
-// Where a scan found what it looked for: a cell's number, or nowhere.
-#[derive(Clone, Copy)]
-pub enum Found {
-    At(usize),
-    Nothing,
-}
-
 // What a read and an update ask of a key's cells.
 #[derive(Clone, Copy)]
 pub struct Looked {
-    pub own: Found,
+    pub own: Option<usize>,
     pub foreign: bool,
     pub conflict: bool,
     pub newest: Cell,
@@ -314,18 +307,6 @@ fn next(cells: &[u32], from: usize, number: bool, word: u32) -> usize
     i
 }
 
-impl Found {
-    // The lowest so far, after cell i that passes the test or not
-    fn lowest(self, passes: bool, i: usize) -> Found
-        ensures { result ≡ lowest_of self passes i }
-    {
-        match self {
-            Found::At(j) => Found::At(j),
-            Found::Nothing => { if passes { Found::At(i) } else { Found::Nothing } }
-        }
-    }
-}
-
 impl Cell {
     // The newest that the view sees so far, after this cell
     fn newest_of(self, best: Cell, view: u32) -> Cell
@@ -344,13 +325,11 @@ impl Looked {
     fn none() -> Looked
         ensures { result ≡ no_look }
     {
-        let own = Found::Nothing;
-        let newest = Cell::none();
         Looked {
-            own: own,
+            own: None,
             foreign: false,
             conflict: false,
-            newest: newest,
+            newest: Cell::none(),
         }
     }
 
@@ -358,14 +337,11 @@ impl Looked {
     fn with(self, i: usize, c: Cell, number: u32, view: u32) -> Looked
         ensures { result ≡ look_turn number view i c self }
     {
-        let so_far = self.own;
-        let own = so_far.lowest(c.own(number), i);
-        let newest = c.newest_of(self.newest, view);
         Looked {
-            own: own,
+            own: self.own.or(c.own(number).then_some(i)),
             foreign: self.foreign | c.foreign(number),
             conflict: self.conflict | c.clashes(number, view),
-            newest: newest,
+            newest: c.newest_of(self.newest, view),
         }
     }
 }
