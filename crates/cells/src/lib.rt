@@ -10,7 +10,7 @@ ghost use Rattle.cells.specs.Rules.{foreign_of, clashes, valued, stamped, wiped,
 ghost use Rattle.cells.specs.Search.{part_of, part_is, four_have, NextAt, newest_of, no_look, look_turn};
 ghost use Rattle.cells.specs.Tables.{raised, tops_of, any_cell, up_to, outdated_by, surpassed_in, held_in};
 
-#[derive(Clone, Copy)]
+#[derive(Clone, Copy, Debug, PartialEq, Eq)]
 pub struct Cell {
     pub word: u32,
     pub value: u32,
@@ -19,7 +19,7 @@ pub struct Cell {
 }
 
 // What a read and an update ask of a key's cells.
-#[derive(Clone, Copy)]
+#[derive(Clone, Copy, Debug, PartialEq, Eq)]
 pub struct Looked {
     pub own: Option<usize>,
     pub foreign: bool,
@@ -117,12 +117,7 @@ impl Cell {
     pub fn valued(self, value: u32) -> Cell
         ensures { result ≡ valued value self }
     {
-        Cell {
-            word: self.word,
-            value,
-            number: self.number,
-            commit: self.commit,
-        }
+        Cell { value, ..self }
     }
 
     // An own cell takes the commit number
@@ -130,12 +125,7 @@ impl Cell {
         ensures { result ≡ stamped number commit self }
     {
         if self.own(number) {
-            Cell {
-                word: self.word,
-                value: self.value,
-                number: self.number,
-                commit,
-            }
+            Cell { commit, ..self }
         } else {
             self
         }
@@ -368,7 +358,7 @@ pub fn look(cells: &[u32], key: u32, number: u32, view: u32) -> Looked
 pub const TOPS: usize = 257;
 
 // For each first word below TOPS the greatest commit number of its cells, of all of them and of those that a view sees
-#[derive(Clone, Copy)]
+#[derive(Clone, Copy, Debug, PartialEq, Eq)]
 pub struct Tops {
     pub all: [u32; TOPS],
     pub seen: [u32; TOPS],
@@ -405,10 +395,7 @@ pub fn tops_of(cells: &[u32], view: u32) -> Tops
             raise(&mut seen, w, c.commit);
         }
     }
-    Tops {
-        all: all,
-        seen: seen,
-    }
+    Tops { all, seen }
 }
 
 // Whether the cell's key has a committed cell with a number above the cell's, by the table where the first word is in it
