@@ -12,7 +12,6 @@ use lib.Dec.{ltb}
 use lib.ListN.{length, get_or, drop}
 use Rattle.std.specs.Prelude.{Option, Some, None, MatchOption}
 use Rattle.std.specs.Option.{unwrap_or}
-use Rattle.cells.specs.declared.Found.{Found}
 use Rattle.cells.specs.declared.Tops.{Tops}
 use Rattle.cells.specs.declared.Cell.{Cell}
 use Rattle.cells.specs.Cells.{no_cell, cells_of, empty, committed}
@@ -31,7 +30,7 @@ use Rattle.steps.proofs.reusable.Goals as goal
 -- at a cell that is read: whether it is free settles the turn
 module _ (ws : List ℕ) (ps : List Place) {i : ℕ} {c : Cell} (h : i < length ws / 4) (e : c ≡ get_or (cells_of ws) i no_cell)
     (left : reusable ps (cells_of ws) ≡ lowest_from i (free ps (cells_of ws)) (drop i (cells_of ws))) where
-  here : free ps (cells_of ws) c ≡ true → Found.At i ≡ reusable ps (cells_of ws)
+  here : free ps (cells_of ws) c ≡ true → Some i ≡ reusable ps (cells_of ws)
   here f = sym (left ∙ lowest_here ws i h (free ps (cells_of ws)) (sym (ap (free ps (cells_of ws)) e) ∙ f))
 
   next : free ps (cells_of ws) c ≡ false

@@ -17,10 +17,10 @@ use Rattle.steps.proofs.Ends.{looked_own, read_own, read_held, read_seen}
 use Rattle.steps.proofs.Board.shown.Goals.{else-look-via-then-look+else-held_back, else-look-via-else-look}
 use Rattle.steps.proofs.Board.shown.Goals as goal
 
-pub returns-in-At : goal.returns-in-At
-returns-in-At c =
+pub returns-in-Some : goal.returns-in-Some
+returns-in-Some c =
     let a = c.args in
-    let found = looked_own a.key (number_at a.self a.at) (view_at a.self a.at) (cells_of a.cells.now) c.look-look.ensures c.in-At.is in
+    let found = looked_own a.key (number_at a.self a.at) (view_at a.self a.at) (cells_of a.cells.now) c.look-look.ensures c.in-Some.is in
     read_own (lent a.self a.cells.now) a.at a.key found c.cell_at.ensures
 
 pub returns-then-held_back : goal.returns-then-held_back

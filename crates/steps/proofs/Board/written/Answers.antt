@@ -14,4 +14,4 @@ returns-in_default c =
 pub returns : goal.returns
 returns c =
     let a = c.args in
-    write_free (lent a.self a.cells.now) a.number a.key a.value (sym c.reusable.ensures ∙ c.in-At.is) c.put_cell.ensures c.with-2.ensures
+    write_free (lent a.self a.cells.now) a.number a.key a.value (sym c.reusable.ensures ∙ c.in-Some.is) c.put_cell.ensures c.with-2.ensures
