@@ -4,24 +4,22 @@
 --     none_back      without a foreign cell no prepared writer holds a key back
 -- Assumes nothing.
 use mathlib.Core.Path.{◌≡◌, refl, sym, ap, ◌∙◌}
-use mathlib.Core.Bool.{Bool, true, false, not, ◌&&◌, ◌||◌, true≢false, false≢true, and-false, or-true}
+use mathlib.Core.Bool.{Bool, true, false, not, ◌&&◌, ◌||◌, true≢false, false≢true, or-true}
 use mathlib.Core.List.{List, [], ◌∷◌}
-use Prim.Native.Nat.{ℕ, zero, suc, ◌≤◌, ◌<◌}
-use native.Mathlib.Nat.{le_of_suc-le-suc, not-suc-le-zero}
+use Prim.Native.Nat.{ℕ, ◌≤◌}
 use native.Mathlib.Omega.{arith}
-use borrow.Author.Tests.{ltb-true, ltb-false, leb-true, le-leb, lt-ltb, le-ltb, ne_eqb, not-true, eqb-true, eqb-false, eq-eqb}
+use borrow.Author.Tests.{ltb-false, leb-true, le-leb, le-ltb, ne_eqb, not-true, eqb-true, eqb-false, eq-eqb}
 use lib.Dec.{eqb, ltb, leb}
-use lib.ListN.{length, get_or}
 use Rattle.cells.specs.declared.Cell.{Cell}
 use Rattle.cells.specs.Cells.{of_key, foreign}
 use Rattle.cells.specs.Rules.{has_cell, newer, between, keeps, foreign_of, foreign_with, has_foreign}
 use Rattle.steps.specs.declared.Place.{Place}
-use Rattle.steps.specs.Record.{all_places, idle_place, is_open, is_prepared}
+use Rattle.steps.specs.Record.{is_open, is_prepared}
 use Rattle.std.specs.Prelude.{cond, min, map, Option, Some, None}
 use Rattle.std.specs.Option.{unwrap_or}
 use Rattle.std.specs.List.{filter, fold, reduce, list_any}
 use Rattle.steps.specs.Search.{open_views, oldest_view}
-use Rattle.steps.proofs.Tests.{two, and_left, and_right, and_both, or_neither}
+use Rattle.steps.proofs.Tests.{and_left, and_right, and_both, or_neither}
 use Rattle.steps.specs.Spent.{has_place, keeps_at, holds_back, held_back}
 
 -- THE LEAST OF A LIST

@@ -20,10 +20,10 @@ use Rattle.cells.specs.Tables.{all_tops, any_cell, up_to, tops_of, outdated_by, 
 use Rattle.cells.proofs.Scan.{lowest_here, lowest_next, lowest_end}
 use Rattle.cells.proofs.Tables.{tables_tell}
 use Rattle.steps.specs.declared.Place.{Place}
-use Rattle.steps.specs.Record.{all_places, idle_place}
+use Rattle.steps.specs.Record.{all_places}
 use Rattle.steps.specs.Spent.{has_place, keeps_at, free, reusable}
 use Rattle.steps.proofs.Spent.{place_turn, place_end, and_is, free_is}
-use Rattle.steps.proofs.Tests.{and_left, and_right}
+use Rattle.steps.proofs.Tests.{and_right}
 use Rattle.steps.proofs.Quick.{none_keep, some_keeps}
 use Rattle.steps.proofs.reusable.Goals as goal
 

@@ -2,13 +2,8 @@
 -- Assumes nothing.
 use mathlib.Core.Path.{◌≡◌, sym, ap, ◌∙◌}
 use mathlib.Core.Bool.{false}
-use mathlib.Core.List.{List}
-use Prim.Native.Nat.{ℕ}
-use Rattle.cells.specs.declared.Cell.{Cell}
-use Rattle.steps.specs.declared.Board.{Board}
 use Rattle.cells.specs.declared.Looked.{Looked}
 use Rattle.cells.specs.Cells.{cells_of}
-use Rattle.cells.specs.Rules.{look_of}
 use Rattle.steps.specs.Spent.{held_back}
 use Rattle.steps.specs.Store.{lent}
 use Rattle.steps.specs.Step.{number_at, view_at}
