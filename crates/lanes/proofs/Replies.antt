@@ -2,9 +2,9 @@
 -- Assumes nothing.
 use mathlib.Core.Path.{◌≡◌, refl, sym, ap, ◌∙◌}
 use mathlib.Core.Bool.{true, ◌&&◌}
+use Rattle.std.specs.Prelude.{Some}
 use mathlib.Core.List.{List}
 use Prim.Native.Nat.{ℕ, ◌+◌, ◌≤◌, ◌<◌, ◌^◌}
-use native.Mathlib.Omega.{arith}
 use lib.Dec.{leb, lit<}
 use lib.ListN.{length}
 use borrow.Author.Tests.{lt-ltb, le-leb}
@@ -20,6 +20,7 @@ use Rattle.records.proofs.Fields.{answer_length}
 use Rattle.records.proofs.RoundTrip.{calls}
 use Rattle.steps.specs.Store.{Store}
 use Rattle.steps.specs.declared.Answered.{Answered}
+use Rattle.steps.specs.declared.Board.{Board}
 use Rattle.steps.specs.Step.{outcome, step}
 use Rattle.steps.specs.Run.{pair_of}
 use Rattle.lanes.specs.Serve.{reply_to, no_call, OneAnswered, one_answered, answer_one}
@@ -63,14 +64,12 @@ written_is bs to reply p v h =
 
 module _ (st : Store) (answers : List ℕ) (to : ℕ) (room : to + answer_bytes ≤ length answers) where
   -- what `reply_to` hands back: the step done, and its answer in the lent bytes
-  pub replied : (call : Call) (r : Answered) (ws' : List ℕ) (place : ℕ) (value : ℕ) (w : Answer) (answers' : List ℕ)
-      → goes_in 1 (place_of call) ≡ true → outcome r ws' ≡ step st call → place ≡ place_of call
-      → value ≡ value_of r.answer → value < 256 ^ 4
+  pub replied : (call : Call) (b : Board) (r : Answered) (ws' : List ℕ) (place : ℕ) (w : Answer) (answers' : List ℕ)
+      → goes_in 1 (place_of call) ≡ true → outcome r ws' ≡ step st call → place ≡ place_of call → value_of r.answer < 256 ^ 4
       → wrote w answers' ≡ written_answer answers to (record { place = place; answer = r.answer })
-      → one_answered (record { board = r.board; good = true }) ws' answers' ≡ answer_one st (CallRead.Good call) answers to
-  replied call r ws' place value w answers' g o p v h wr =
+      → one_answered b (Some r.board) ws' answers' ≡ answer_one st (CallRead.Good call) answers to
+  replied call b r ws' place w answers' g o p small wr =
       let byte : goes_in 1 place ≡ true = ap (goes_in 1) p ∙ g in
-      let small : value_of r.answer < 256 ^ 4 = omega arith in
       let named : r.answer ≡ answer_of (step st call).said.number (step st call).said.value =
       sym (answer_back r.answer) ∙ (λ i. answer_of (o i).said.number (o i).said.value) in
       let put : answers' ≡ put_at answers to (answer_record (reply_to (pair_of st call))) =

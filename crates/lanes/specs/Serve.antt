@@ -1,18 +1,19 @@
 -- Call records answered one after another.
 -- Assumes nothing.
-use Rattle.std.specs.Prelude.{ℕ, zero, suc, ◌*◌, ◌/◌, min, Bool, true, false, cond, List, [], ◌∷◌, ◌++◌, map, ltb, leb, length, drop}
+use Rattle.std.specs.Prelude.{ℕ, zero, suc, ◌*◌, ◌/◌, min, Bool, true, false, cond, Option, Some, None}
+use Rattle.std.specs.Prelude.{List, [], ◌∷◌, ◌++◌, map, ltb, leb, length, drop}
 use Rattle.records.specs.declared.Answer.{Answer}
 use Rattle.records.specs.declared.Call.{Call}
 use Rattle.records.specs.declared.CallRead.{CallRead}
 use Rattle.records.specs.declared.Reply.{Reply}
 use Rattle.records.specs.Answers.{place_of}
 use Rattle.records.specs.Format.{call_bytes, answer_bytes, answer_of, answer_record, call_at, put_at}
+use Rattle.steps.specs.declared.Board.{Board}
 use Rattle.steps.specs.Store.{Store, lent}
 use Rattle.steps.specs.Step.{step}
 use Rattle.steps.specs.Run.{Pair, Run, pair_of, run}
 use Rattle.lanes.specs.declared.Stop.{Stop}
 use Rattle.lanes.specs.declared.Served.{Served}
-use Rattle.lanes.specs.declared.Next.{Next}
 
 -- the calls behind one that was read; none from bytes that are no call
 abbrev pub read_then : CallRead → List Call → List Call
@@ -115,9 +116,10 @@ pub record OneAnswered : Type 0 where
   pub answers : List ℕ
   pub good : Bool
 
--- what answering one record handed back, as such a record
-abbrev pub one_answered : Next → List ℕ → List ℕ → OneAnswered
-one_answered r ws answers = record { store = lent r.board ws; answers = answers; good = r.good }
+-- what answering one record handed back, as such a record: the board after a call; bytes that are no call leave the board as it was
+abbrev pub one_answered : Board → Option Board → List ℕ → List ℕ → OneAnswered
+one_answered b (Some after) ws answers = record { store = lent after ws; answers = answers; good = true }
+one_answered b None ws answers = record { store = lent b ws; answers = answers; good = false }
 
 -- a call does its step and is answered in the lent bytes; bytes that are no call change nothing of the store
 abbrev pub answer_one : Store → CallRead → List ℕ → ℕ → OneAnswered

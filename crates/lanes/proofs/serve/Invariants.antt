@@ -12,8 +12,8 @@ invariant-loop-i l =
     (l.i ≤ l.records)
     × (length l.cells ≡ length l.initial.cells)
     × (length l.answers ≡ length l.initial.answers)
-    × (rest l.records 0 (last_stop l.calls l.records) (lent l.initial.next l.initial.cells) l.calls l.initial.answers
-    ≡ rest (l.records - l.i) l.i (last_stop l.calls l.records) (lent l.next l.cells) l.calls l.answers)
+    × (rest l.records 0 (last_stop l.calls l.records) (lent l.initial.board l.initial.cells) l.calls l.initial.answers
+    ≡ rest (l.records - l.i) l.i (last_stop l.calls l.records) (lent l.board l.cells) l.calls l.answers)
 
 abbrev pub decreases-loop-i : goal.decreases-loop-i
 decreases-loop-i l = l.records - l.i
