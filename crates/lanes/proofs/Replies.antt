@@ -23,7 +23,7 @@ use Rattle.steps.specs.declared.Answered.{Answered}
 use Rattle.steps.specs.declared.Board.{Board}
 use Rattle.steps.specs.Step.{outcome, step}
 use Rattle.steps.specs.Run.{pair_of}
-use Rattle.lanes.specs.Serve.{reply_to, no_call, OneAnswered, one_answered, answer_one}
+use Rattle.lanes.specs.Serve.{reply_to, no_call, one_answered, answer_one}
 
 -- READING
 
@@ -82,8 +82,3 @@ module _ (st : Store) (answers : List ℕ) (to : ℕ) (room : to + answer_bytes 
 pub no_call_put : (answers : List ℕ) (to : ℕ) (w : Answer) (answers' : List ℕ) → to + answer_bytes ≤ length answers
     → wrote w answers' ≡ written_answer answers to no_call → answers' ≡ put_at answers to (answer_record no_call)
 no_call_put answers to w answers' room wr = ap (λ (s : Written). s.bytes) wr ∙ written_is answers to no_call refl (lit< tt) room
-
--- what `answer_at` hands back: what was read decides
-pub answered : (st : Store) (bytes : List ℕ) (at : ℕ) (answers : List ℕ) (to : ℕ) (o : OneAnswered) (read : CallRead)
-    → call_at bytes at ≡ read → o ≡ answer_one st read answers to → o ≡ answer_one st (call_at bytes at) answers to
-answered st bytes at answers to o read e h = h ∙ ap (λ (r : CallRead). answer_one st r answers to) (sym e)

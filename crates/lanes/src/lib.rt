@@ -47,6 +47,7 @@ pub fn call(board: Board, cells: &mut [u32], call: Call) -> Answered
 
 // Answers the call record at an offset of the calls, from an offset of the answers. Hands back the record after it, or None for bytes
 // that are no call: the record is then as it was.
+#[tactic(auto, using(crate::proofs::Replies::call_place))]
 fn answer_at(
     board: Board,
     cells: &mut [u32],
@@ -172,6 +173,7 @@ impl Desk {
     }
 
     // 1,024 cells, every word 0.
+    #[tactic(auto, unfolding(cells::specs::Cells::words_of))]
     pub fn words() -> [u32; Desk::WORDS]
         ensures { result ≡ desk_words }
     {
