@@ -210,7 +210,7 @@ impl Turned {
     pub fn goes_on(self, sent: bool) -> bool
         ensures { result ≡ (self.more && sent) }
     {
-        self.more & sent
+        self.more && sent
     }
 }
 
