@@ -6,7 +6,7 @@
 -- Assumes nothing.
 use mathlib.Core.Path.{◌≡◌, refl, sym, ap, ◌∙◌}
 use mathlib.Core.Bool.{Bool, true, cond, true≢false, false≢true}
-use Rattle.std.specs.Prelude.{Some, None}
+use Rattle.std.specs.Prelude.{Some, None, Option}
 use mathlib.Core.List.{List, [], ◌∷◌, ◌++◌, append_assoc}
 use Prim.Native.Nat.{ℕ, suc, ◌+◌, ◌*◌, ◌-◌, ◌≤◌, ◌<◌}
 use native.Mathlib.Nat.{zero-add, add-zero}
@@ -15,33 +15,16 @@ use lib.Dec.{ltb, leb, leb-suc-suc, leb-zero}
 use lib.ListN.{length, take, drop, length-append, take-append-drop}
 use lib.Seq.{drop-drop}
 use Rattle.records.specs.declared.Call.{Call}
-use Rattle.records.specs.declared.CallRead.{CallRead}
 use Rattle.records.specs.Format.{call_bytes, answer_bytes, answer_record, call_at, put_at}
 use Rattle.steps.specs.declared.Board.{Board}
 use Rattle.steps.specs.Store.{Store, Outcome, lent}
 use Rattle.steps.specs.Step.{step}
 use Rattle.steps.specs.Run.{Run, pair_of, run}
 use Rattle.lanes.specs.declared.Stop.{Stop}
-use Rattle.lanes.specs.Serve.{
-  read_then,
-  calls_in,
-  reply_to,
-  no_call,
-  replies_of,
-  records_of,
-  whole_calls,
-  tried,
-  refused,
-  Serving,
-  serve_first,
-  serve_of,
-  serve_into,
-  OneAnswered,
-  one_answered,
-  answer_one,
-}
+use Rattle.lanes.specs.Serve.{read_then, calls_in, reply_to, no_call, replies_of, records_of, whole_calls, tried}
+use Rattle.lanes.specs.Serve.{refused, Serving, serve_first, serve_of, serve_into, OneAnswered, one_answered, answer_one}
 use Rattle.records.proofs.Bytes.{put_next}
-use Rattle.records.proofs.Fields.{answer_length}
+use Rattle.records.specs.Kinds.{answer_long}
 
 -- calls that are left, of so many records, with i records answered before them; last is why serving stops if they are all calls
 abbrev rest_with : List Call → ℕ → ℕ → Stop → Store → List ℕ → Serving
@@ -86,7 +69,7 @@ module _ (st : Store) (bytes answers : List ℕ) where
 
 -- the call at the front of what is left
 module _ (bytes : List ℕ) (i k : ℕ) where
-  next_good : (call : Call) → call_at bytes (call_bytes * i) ≡ CallRead.Good call
+  next_good : (call : Call) → call_at bytes (call_bytes * i) ≡ Some call
       → calls_in (suc k) (drop (call_bytes * i) bytes) ≡ call ∷ calls_in k (drop (call_bytes * (i + 1)) bytes)
   unfolding calls_in call_at
   next_good call e =
@@ -95,9 +78,9 @@ module _ (bytes : List ℕ) (i k : ℕ) where
       drop-drop call_bytes (call_bytes * i) bytes ∙ ap (λ (n : ℕ). drop n bytes) far in
       λ j. read_then (e j) (calls_in k (behind j))
 
-  next_bad : call_at bytes (call_bytes * i) ≡ CallRead.Record → calls_in (suc k) (drop (call_bytes * i) bytes) ≡ []
+  next_bad : call_at bytes (call_bytes * i) ≡ None → calls_in (suc k) (drop (call_bytes * i) bytes) ≡ []
   unfolding calls_in call_at
-  next_bad e = ap (λ (r : CallRead). read_then r (calls_in k (drop call_bytes (drop (call_bytes * i) bytes)))) e
+  next_bad e = ap (λ (r : Option Call). read_then r (calls_in k (drop call_bytes (drop (call_bytes * i) bytes)))) e
 
 module _ (i k : ℕ) (last : Stop) (st : Store) (answers : List ℕ) where
   with_good : (call : Call) (calls : List Call) → answer_bytes * i + answer_bytes ≤ length answers
@@ -114,7 +97,7 @@ module _ (i k : ℕ) (last : Stop) (st : Store) (answers : List ℕ) where
       let outs : rec ++ records_of (replies_of ran) ++ refused (suc (length calls)) (suc k) ≡ rec ++ out =
       ap (λ (t : Bool). rec ++ records_of (replies_of ran) ++ cond t (answer_record no_call) []) less
       ∙ append_assoc rec (records_of (replies_of ran)) (refused (length calls) k) in
-      let long : length rec ≡ answer_bytes = answer_length (reply_to (pair_of st call)) in
+      let long : length rec ≡ answer_bytes = answer_long (reply_to (pair_of st call)) in
       let far : answer_bytes * i + length rec ≡ answer_bytes * (i + 1) = omega arith in
       let puts : put_at answers (answer_bytes * i) (rec ++ records_of (replies_of ran) ++ refused (suc (length calls)) (suc k))
       ≡ put_at (put_at answers (answer_bytes * i) rec) (answer_bytes * (i + 1)) out =
@@ -139,7 +122,7 @@ module _ (i k : ℕ) (last : Stop) (st : Store) (answers : List ℕ) where
       let first : ltb 0 (suc k) ≡ true = leb-suc-suc 0 k ∙ leb-zero k in
       let outs : refused 0 (suc k) ≡ answer_record no_call = ap (λ (t : Bool). cond t (answer_record no_call) []) first in
       let writes : answer_bytes * i + length (refused 0 (suc k)) ≡ answer_bytes * i + answer_bytes =
-      ap (λ (l : List ℕ). answer_bytes * i + length l) outs ∙ rw answer_length (omega arith) in
+      ap (λ (l : List ℕ). answer_bytes * i + length l) outs ∙ rw answer_long (omega arith) in
       λ j. record {
         store = st;
         answers = put_at answers (answer_bytes * i) (outs j);
@@ -176,24 +159,24 @@ module _ (i k : ℕ) (last : Stop) (st : Store) (bytes answers : List ℕ) (b : 
       → rest (suc k) i last st bytes answers ≡ rest k (i + 1) last (lent after ws') bytes answers'
   rest_good after room e = go (call_at bytes (call_bytes * i)) refl e
     where
-      go : (r : CallRead) → call_at bytes (call_bytes * i) ≡ r
+      go : (r : Option Call) → call_at bytes (call_bytes * i) ≡ r
           → one_answered b (Some after) ws' answers' ≡ answer_one st r answers (answer_bytes * i)
           → rest (suc k) i last st bytes answers ≡ rest k (i + 1) last (lent after ws') bytes answers'
-      go (CallRead.Good call) h o =
+      go (Some call) h o =
           ap (λ (l : List Call). rest_with l (suc k) i last st answers) (next_good bytes i k call h)
           ∙ with_good i k last st answers call (calls_in k (drop (call_bytes * (i + 1)) bytes)) room
           ∙ sym (λ j. rest k (i + 1) last (o j).store bytes (o j).answers)
-      go CallRead.Record h o = absurd (true≢false (ap (λ (s : OneAnswered). s.good) o))
+      go None h o = absurd (true≢false (ap (λ (s : OneAnswered). s.good) o))
 
   pub rest_bad : one_answered b None ws' answers' ≡ answer_one st (call_at bytes (call_bytes * i)) answers (answer_bytes * i)
       → rest (suc k) i last st bytes answers ≡ stopped i (lent b ws') answers'
   rest_bad e = go (call_at bytes (call_bytes * i)) refl e
     where
-      go : (r : CallRead) → call_at bytes (call_bytes * i) ≡ r
+      go : (r : Option Call) → call_at bytes (call_bytes * i) ≡ r
           → one_answered b None ws' answers' ≡ answer_one st r answers (answer_bytes * i)
           → rest (suc k) i last st bytes answers ≡ stopped i (lent b ws') answers'
-      go (CallRead.Good call) h o = absurd (false≢true (ap (λ (s : OneAnswered). s.good) o))
-      go CallRead.Record h o =
+      go (Some call) h o = absurd (false≢true (ap (λ (s : OneAnswered). s.good) o))
+      go None h o =
           ap (λ (l : List Call). rest_with l (suc k) i last st answers) (next_bad bytes i k h)
           ∙ with_bad i k last st answers
           ∙ sym (λ j. stopped i (o j).store (o j).answers)

@@ -11,7 +11,7 @@ ghost use Rattle.lanes.specs.Serve.{no_call, serving, serve_into, one_answered, 
 ghost use Rattle.lanes.specs.Desk.{desk_words, more_after, at_end, turn_on, fresh_desk, turned_in, turn_put, turn_into};
 
 use cells::Cell;
-use records::{ANSWER_BYTES, Answer, CALL_BYTES, Call, CallRead, Reply};
+use records::{ANSWER_BYTES, CALL_BYTES, Call, Refusal, Reply};
 use steps::{Answered, Board};
 
 // Why serving stopped: fewer bytes than a call record are left, bytes that are no call, or no room for one more answer.
@@ -23,7 +23,7 @@ pub enum Stop {
 }
 
 // How far serving got: the new record, how many bytes of calls were taken and of answers written, and why it stopped.
-#[derive(Clone, Copy)]
+#[derive(Clone, Copy, Debug, PartialEq, Eq)]
 pub struct Served {
     pub board: Board,
     pub taken: usize,
@@ -47,7 +47,7 @@ pub fn call(board: Board, cells: &mut [u32], call: Call) -> Answered
 
 // Answers the call record at an offset of the calls, from an offset of the answers. Hands back the record after it, or None for bytes
 // that are no call: the record is then as it was.
-#[tactic(auto, using(crate::proofs::Replies::call_place))]
+#[tactic(auto, using(crate::proofs::Replies::call_place), unfolding(records::specs::Format::call_at))]
 fn answer_at(
     board: Board,
     cells: &mut [u32],
@@ -60,37 +60,35 @@ fn answer_at(
     ensures { one_answered board result cells.new answers.new
         ≡ answer_one (lent board cells.old) (call_at calls.now at) answers.old to }
 {
-    match records::read_call(calls, at) {
-        CallRead::Good(c) => Some(reply_to(board, cells, c, answers, to)),
-        CallRead::Record => {
-            no_call(answers, to);
-            None
-        }
-    }
+    let Some(c) = records::read::<Call>(calls, at) else {
+        no_call(answers, to);
+        return None;
+    };
+    Some(reply_to(board, cells, c, answers, to))
 }
 
 // Does a call that was read, and writes its answer, with the call's place byte.
 fn reply_to(board: Board, cells: &mut [u32], c: Call, answers: &mut [u8], to: usize) -> Board
     requires { (goes_in 1 (place_of c) ≡ true) × (to + answer_bytes ≤ length answers.old) }
     ensures { one_answered board (Some result) cells.new answers.new
-        ≡ answer_one (lent board cells.old) (CallRead.Good c) answers.old to }
+        ≡ answer_one (lent board cells.old) (Some c) answers.old to }
 {
     let done = call(board, cells, c);
     let answer = done.answer;
-    // A value goes into its four bytes; the proof that the record is written rests on this line.
+    // A value goes into its four bytes, so the record is written; the proof rests on this line.
     prove!(records::value(answer) <= u32::MAX);
     let place = records::place_of(c);
-    records::write_answer(answers, to, Reply { place, answer });
+    let _ = records::write(answers, to, Reply { place, answer });
     done.board
 }
 
-// Writes RECORD with place 0 and value 0.
+// Writes RECORD with place 0 and value 0, which there is room for.
 fn no_call(answers: &mut [u8], to: usize)
     requires { to + answer_bytes ≤ length answers.old }
     ensures { answers.new ≡ put_at answers.old to (answer_record no_call) }
 {
-    let answer = Answer::Record;
-    records::write_answer(answers, to, Reply { place: 0, answer });
+    let answer = Err(Refusal::Record);
+    let _ = records::write(answers, to, Reply { place: 0, answer });
 }
 
 // Answers call records one after another: to the end of the whole records, to bytes that are no call (RECORD is written for them, and
@@ -134,14 +132,14 @@ fn last_stop(whole: usize, records: usize) -> Stop
 }
 
 // The desk between two turns: the record, and how many bytes at the front of its input are a cut record.
-#[derive(Clone, Copy)]
+#[derive(Clone, Copy, Debug, PartialEq, Eq)]
 pub struct Desk {
     pub board: Board,
     pub left: usize,
 }
 
 // What a turn came to: the desk after it, how many bytes of answers there are to send, and whether there is more to do.
-#[derive(Clone, Copy)]
+#[derive(Clone, Copy, Debug, PartialEq, Eq)]
 pub struct Turned {
     pub desk: Desk,
     pub written: usize,

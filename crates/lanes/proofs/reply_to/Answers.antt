@@ -12,5 +12,5 @@ returns c =
     let small : value_of c.call-done.result.answer < 256 ^ 4 = omega arith in
     replied (lent s.board s.cells.now) s.answers.now s.to c.requires.1
     s.c s.board c.call-done.result c.call-done.new.cells c.place_of-place.result
-    c.write_answer.result c.write_answer.new.bytes
-    c.requires.0 c.call-done.ensures c.place_of-place.ensures small c.write_answer.ensures
+    c.write.result c.write.new.bytes
+    c.requires.0 c.call-done.ensures c.place_of-place.ensures small c.write.ensures
