@@ -126,6 +126,15 @@ module _ (s : List ℕ) (byte : (i : ℕ) → get_or s i 0 < 256) where
       let same : a ≡ A = cc in
       let tested = answer_test A (answer_small (get_or s 2 0) _ (field_below 4 4)) in
       let passes : ((eqb (get_or s 0 0) 0x41 && eqb (get_or s 1 0) 0x4E) && n) ≡ same_bytes (gets 8 s 0) (answer_record R) = cc in
-      kept _ _
+      kept ((eqb (get_or s 0 0) 0x41 && eqb (get_or s 1 0) 0x4E) && n) (record { place = place; answer = a })
       ∙ (λ i. cond (passes i) (Some (record { place = p i; answer = same i })) None)
       ∙ sym (ap answer_in (part_gets 8 s 0 h))
+
+-- a call's record has ten bytes, an answer's eight
+pub call_length : (c : Call) → length (call_record c) ≡ call_bytes
+unfolding call_record
+call_length c = refl
+
+pub answer_length : (r : Reply) → length (answer_record r) ≡ answer_bytes
+unfolding answer_record
+answer_length r = refl

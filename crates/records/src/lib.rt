@@ -137,7 +137,9 @@ impl Record for Call {
         let value = u32::from_le_bytes([v0, v1, v2, v3]);
         let call = call_of(kind, u32::from(place), key, value);
         let marked = (c == MARK_C) & (l == MARK_L);
-        (marked & call_named(call, kind, key, value)).then_some(call)
+        let named = (kind == kind_of(call))
+            & ((key == key_of(call)) & (value == new_value_of(call)));
+        (marked & named).then_some(call)
     }
 
     fn put(self, s: &mut [u8]) -> Answer {
@@ -172,13 +174,15 @@ impl Record for Reply {
         let &[a, n, no, place, v0, v1, v2, v3, ..] = s else {
             return None;
         };
-        let value = u32::from_le_bytes([v0, v1, v2, v3]);
-        let answer = answer_of(no, value);
-        let marked = (a == MARK_A) & (n == MARK_N);
-        (marked & answer_named(answer, no, value)).then_some(Reply {
+        let val = u32::from_le_bytes([v0, v1, v2, v3]);
+        let answer = answer_of(no, val);
+        let reply = Reply {
             place: u32::from(place),
             answer,
-        })
+        };
+        let marked = (a == MARK_A) & (n == MARK_N);
+        let named = (no == number(answer)) & (val == value(answer));
+        (marked & named).then_some(reply)
     }
 
     fn put(self, s: &mut [u8]) -> Answer {
@@ -310,18 +314,4 @@ fn answer_of(number: u8, value: u32) -> Answer
         11 => Err(Refusal::Full),
         _ => Err(Refusal::Record),
     }
-}
-
-// Whether a call has this kind, and this key and value in its record.
-fn call_named(call: Call, kind: u8, key: u32, value: u32) -> bool
-    ensures { result ≡ (eqb kind (kind_of call) && (eqb key (key_of call) && eqb value (new_value_of call))) }
-{
-    (kind == kind_of(call)) & ((key == key_of(call)) & (value == new_value_of(call)))
-}
-
-// Whether an answer has this number and this value.
-fn answer_named(answer: Answer, no: u8, val: u32) -> bool
-    ensures { result ≡ (eqb no (number_of answer) && eqb val (value_of answer)) }
-{
-    (no == number(answer)) & (val == value(answer))
 }
