@@ -15,7 +15,7 @@ use Rattle.records.specs.declared.Refusal.{Refusal}
 use Rattle.records.specs.declared.Call.{Call}
 use Rattle.records.specs.declared.Reply.{Reply}
 use Rattle.records.specs.Answers.{Answer, number_of, value_of, place_of}
-use Rattle.records.specs.Format.{kind_of, key_of, new_value_of, calls_of, call_of, call_record, call_from, call_in}
+use Rattle.records.specs.Format.{call_bytes, answer_bytes, kind_of, key_of, new_value_of, calls_of, call_of, call_record, call_from, call_in}
 use Rattle.records.specs.Format.{answers_of, answer_of, answer_record, reply_from, answer_in}
 use Rattle.records.specs.Format.{bytes_of, number_in, same_bytes}
 use Rattle.records.proofs.Bytes.{gets, part_gets, same_number, same_append, gets_all, gets_length, bytes_below}
