@@ -15,7 +15,7 @@ use Rattle.records.specs.Answers.{Answer, number_of, value_of, place_of}
 use Rattle.records.specs.Format.{answer_bytes, goes_in, key_of, new_value_of, call_at, answer_of, answer_record, reply_fits}
 use Rattle.records.specs.Format.{put_at, Written, wrote, written, written_answer}
 use Rattle.records.proofs.Bytes.{and_left}
-use Rattle.records.specs.Kinds.{answer_long}
+use Rattle.records.proofs.Fields.{answer_length}
 use Rattle.records.proofs.RoundTrip.{calls}
 use Rattle.steps.specs.Store.{Store}
 use Rattle.steps.specs.declared.Answered.{Answered}
@@ -56,7 +56,7 @@ unfolding written_answer
 written_is bs to reply p v h =
     let fits : reply_fits reply ≡ true = rw (p, lt-ltb (value_of reply.answer) (256 ^ 4) v) in
     let room : leb (to + length (answer_record reply)) (length bs) ≡ true =
-    rw answer_long (le-leb (to + answer_bytes) (length bs) h) in
+    rw answer_length (le-leb (to + answer_bytes) (length bs) h) in
     rw (fits, room)
 
 -- ONE RECORD

@@ -24,7 +24,7 @@ use Rattle.lanes.specs.declared.Stop.{Stop}
 use Rattle.lanes.specs.Serve.{read_then, calls_in, reply_to, no_call, replies_of, records_of, whole_calls, tried}
 use Rattle.lanes.specs.Serve.{refused, Serving, serve_first, serve_of, serve_into, OneAnswered, one_answered, answer_one}
 use Rattle.records.proofs.Bytes.{put_next}
-use Rattle.records.specs.Kinds.{answer_long}
+use Rattle.records.proofs.Fields.{answer_length}
 
 -- calls that are left, of so many records, with i records answered before them; last is why serving stops if they are all calls
 abbrev rest_with : List Call → ℕ → ℕ → Stop → Store → List ℕ → Serving
@@ -97,7 +97,7 @@ module _ (i k : ℕ) (last : Stop) (st : Store) (answers : List ℕ) where
       let outs : rec ++ records_of (replies_of ran) ++ refused (suc (length calls)) (suc k) ≡ rec ++ out =
       ap (λ (t : Bool). rec ++ records_of (replies_of ran) ++ cond t (answer_record no_call) []) less
       ∙ append_assoc rec (records_of (replies_of ran)) (refused (length calls) k) in
-      let long : length rec ≡ answer_bytes = answer_long (reply_to (pair_of st call)) in
+      let long : length rec ≡ answer_bytes = answer_length (reply_to (pair_of st call)) in
       let far : answer_bytes * i + length rec ≡ answer_bytes * (i + 1) = omega arith in
       let puts : put_at answers (answer_bytes * i) (rec ++ records_of (replies_of ran) ++ refused (suc (length calls)) (suc k))
       ≡ put_at (put_at answers (answer_bytes * i) rec) (answer_bytes * (i + 1)) out =
@@ -122,7 +122,7 @@ module _ (i k : ℕ) (last : Stop) (st : Store) (answers : List ℕ) where
       let first : ltb 0 (suc k) ≡ true = leb-suc-suc 0 k ∙ leb-zero k in
       let outs : refused 0 (suc k) ≡ answer_record no_call = ap (λ (t : Bool). cond t (answer_record no_call) []) first in
       let writes : answer_bytes * i + length (refused 0 (suc k)) ≡ answer_bytes * i + answer_bytes =
-      ap (λ (l : List ℕ). answer_bytes * i + length l) outs ∙ rw answer_long (omega arith) in
+      ap (λ (l : List ℕ). answer_bytes * i + length l) outs ∙ rw answer_length (omega arith) in
       λ j. record {
         store = st;
         answers = put_at answers (answer_bytes * i) (outs j);

@@ -17,7 +17,7 @@ use lib.ListN.{length, take, drop, length-take, length-drop, take-append-drop, d
 use lib.Seq.{take_all, take-add, take-append_seam, length-take-le, length-slice}
 use Rattle.records.specs.Format.{call_bytes, answer_bytes, answer_record, put_at}
 use Rattle.records.proofs.Bytes.{put_front}
-use Rattle.records.specs.Kinds.{answer_long}
+use Rattle.records.proofs.Fields.{answer_length}
 use Rattle.steps.specs.Store.{Store, lent}
 use Rattle.lanes.specs.declared.Served.{Served}
 use Rattle.lanes.specs.declared.Desk.{Desk}
@@ -76,7 +76,7 @@ pub end_cut : (left : ℕ) (answers answers' : List ℕ) → (left ≡ 0 → ⊥
     → (answer_bytes ≡ length (at_end left)) × (answers' ≡ put_at answers 0 (at_end left))
 end_cut left answers answers' n e =
     let cut : answer_record no_call ≡ at_end left = ap (λ (t : Bool). cond t [] (answer_record no_call)) (sym (ne_eqb left 0 n)) in
-    (sym (answer_long no_call) ∙ ap length cut, e ∙ ap (put_at answers 0) cut)
+    (sym (answer_length no_call) ∙ ap length cut, e ∙ ap (put_at answers 0) cut)
 
 -- SERVING THEM
 
