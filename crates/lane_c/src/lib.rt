@@ -10,7 +10,7 @@ ghost use Rattle.lane_c.specs.Words.{record_words, state_word, state_of, words_o
 ghost use Rattle.lane_c.specs.Words.{record_of, words_of_record, well_formed};
 
 use lanes::Stop;
-use records::{Answer, Call, CallRead};
+use records::{Answer, Call, Refusal};
 use std::array;
 use steps::{Board, Place, State};
 
@@ -47,10 +47,10 @@ pub extern "C" fn lane_call(
 ) -> u64
     ensures { crossed result words.new cells.new ≡ lane_call words.old cells.old kind place key value }
 {
-    match call_named(kind, place, key, value) {
-        CallRead::Good(call) => step_on_words(words, cells, call),
-        CallRead::Record => answer_word(Answer::Record),
-    }
+    let Some(call) = call_named(kind, place, key, value) else {
+        return answer_word(Err(Refusal::Record));
+    };
+    step_on_words(words, cells, call)
 }
 
 // Call records answered one after another, on a record held as words.
@@ -89,7 +89,7 @@ fn step_on_words(words: &mut [u32], cells: &mut [u32], call: Call) -> u64
     ensures { crossed result words.new cells.new ≡ step_on_words words.old cells.old call }
 {
     if !well_formed(words) {
-        return answer_word(Answer::Board);
+        return answer_word(Err(Refusal::Board));
     }
     let before = load(words);
     let done = lanes::call(before, cells, call);
@@ -98,18 +98,18 @@ fn step_on_words(words: &mut [u32], cells: &mut [u32], call: Call) -> u64
 }
 
 // The call that a kind names, a number of the C interface.
-fn call_named(kind: u32, place: u32, key: u32, value: u32) -> CallRead
+fn call_named(kind: u32, place: u32, key: u32, value: u32) -> Option<Call>
     ensures { result ≡ call_named kind place key value }
 {
-    match kind {
-        1 => CallRead::Good(Call::Start { place }),
-        2 => CallRead::Good(Call::Read { place, key }),
-        3 => CallRead::Good(Call::Update { place, key, value }),
-        4 => CallRead::Good(Call::Prepare { place }),
-        5 => CallRead::Good(Call::Commit { place }),
-        6 => CallRead::Good(Call::Rollback { place }),
-        _ => CallRead::Record,
-    }
+    Some(match kind {
+        1 => Call::Start { place },
+        2 => Call::Read { place, key },
+        3 => Call::Update { place, key, value },
+        4 => Call::Prepare { place },
+        5 => Call::Commit { place },
+        6 => Call::Rollback { place },
+        _ => return None,
+    })
 }
 
 // An answer as one word: its number above its value.
