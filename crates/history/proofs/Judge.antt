@@ -2,7 +2,7 @@
 --     all_right, full_right     the two promises of specs/Verdict
 --     decided                   so a ledger and the number of cells decide every answer
 -- Assumes nothing.
-use Rattle.std.specs.Prelude.{Option, Some, None, Ok, Err}
+use Rattle.std.specs.Prelude.{Option as Found, Some, None, Ok, Err}
 use mathlib.Core.Path.{◌≡◌, refl, sym, ap, ◌∙◌, subst}
 use mathlib.Core.Logic.{◌⊎◌, inl, inr, ◌↔◌}
 use mathlib.Core.Bool.{Bool, true, false, not, ◌&&◌, false≢true}
@@ -231,7 +231,7 @@ module _ (st : Store) (L : Ledger) (s : in_shape st.board (length st.words) ≡ 
       (λ n t i f. (λ e. absurd (omega arith), λ q. absurd (nothing_found (reusable b.places cs) i f (packed_full b cs L 𝓛 q))))
       (λ n t f. (λ _. full_packed b cs L 𝓛 f, λ _. refl)))
     where
-      nothing_found : (x : Option ℕ) (i : ℕ) → x ≡ Some i → x ≡ None → ⊥
+      nothing_found : (x : Found ℕ) (i : ℕ) → x ≡ Some i → x ≡ None → ⊥
       nothing_found x i e f = let z : ◌≡◌ {A = ℕ} 0 1 = cc in omega arith
 
 pub all_right : AllRight

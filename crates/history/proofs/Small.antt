@@ -2,7 +2,7 @@
 --     small_ledger     no write in a ledger is above the bound
 --     step_small       no answer's value is
 -- Assumes nothing.
-use Rattle.std.specs.Prelude.{Option, Err}
+use Rattle.std.specs.Prelude.{Err}
 use mathlib.Core.Path.{◌≡◌, refl, sym, ◌∙◌}
 use mathlib.Core.Logic.{inr}
 use mathlib.Core.Bool.{true}
