@@ -1,13 +1,12 @@
 -- Records: one of each kind, as bytes and back, and bytes that are next to one and are none.
 -- Assumes nothing.
-use Rattle.std.specs.Prelude.{ℕ, List, [], ◌∷◌, ◌++◌, replicate}
+use Rattle.std.specs.Prelude.{ℕ, List, [], ◌∷◌, ◌++◌, replicate, Option, Some, None, Ok, Err}
 use Rattle.records.specs.declared.Call.{Call}
-use Rattle.records.specs.declared.CallRead.{CallRead}
-use Rattle.records.specs.declared.Answer.{Answer}
-use Rattle.records.specs.declared.AnswerRead.{AnswerRead}
+use Rattle.records.specs.declared.Refusal.{Refusal}
 use Rattle.records.specs.declared.Reply.{Reply}
 use Rattle.records.specs.Format.{Written, call_at, answer_at, written_call, written_answer}
 use Rattle.edges.specs.Names.{Agree, RECORD, zeros, eight, ten}
+use Rattle.records.specs.Answers.{Answer}
 
 infix 70 ◌is◌
 -- a call, or an answer with its place, and its record
@@ -108,18 +107,18 @@ start_and_commit =
     ++ (0xEE ∷ [])
 
 -- reading takes the record at a given offset in lent bytes; an offset past the end is RECORD
-abbrev pub call_reads : List (Reads CallRead)
+abbrev pub call_reads : List (Reads (Option Call))
 call_reads =
-    reads start_and_commit 0 CallRead.Record
-    ∷ reads start_and_commit 1 (CallRead.Good (Call.Start 1))
-    ∷ reads start_and_commit 2 CallRead.Record
-    ∷ reads start_and_commit 11 (CallRead.Good (Call.Commit 5))
-    ∷ reads start_and_commit 12 CallRead.Record
-    ∷ reads start_and_commit 13 CallRead.Record
-    ∷ reads start_and_commit 21 CallRead.Record
-    ∷ reads start_and_commit 22 CallRead.Record
-    ∷ reads start_and_commit 23 CallRead.Record
-    ∷ reads start_and_commit 18_446_744_073_709_551_615 CallRead.Record
+    reads start_and_commit 0 None
+    ∷ reads start_and_commit 1 (Some (Call.Start 1))
+    ∷ reads start_and_commit 2 None
+    ∷ reads start_and_commit 11 (Some (Call.Commit 5))
+    ∷ reads start_and_commit 12 None
+    ∷ reads start_and_commit 13 None
+    ∷ reads start_and_commit 21 None
+    ∷ reads start_and_commit 22 None
+    ∷ reads start_and_commit 23 None
+    ∷ reads start_and_commit 18_446_744_073_709_551_615 None
     ∷ []
 
 -- writing puts it from a given offset and changes no other byte; on RECORD no byte changes
@@ -151,15 +150,15 @@ CallsWritten = Agree (λ (r : Has Call). written_call (zeros 10) 0 r.what) (λ (
 
 -- and every record, read, gives its call
 abbrev pub CallsRead : Type 0
-CallsRead = Agree (λ (r : Has Call). call_at r.bytes 0) (λ (r : Has Call). CallRead.Good r.what) call_rows
+CallsRead = Agree (λ (r : Has Call). call_at r.bytes 0) (λ (r : Has Call). Some r.what) call_rows
 
 -- what is no call record is RECORD
 abbrev pub NoCallsRead : Type 0
-NoCallsRead = Agree (λ bs. call_at bs 0) (λ bs. CallRead.Record) no_calls
+NoCallsRead = Agree (λ bs. call_at bs 0) (λ bs. None) no_calls
 
 -- at every offset
 abbrev pub CallsReadAt : Type 0
-CallsReadAt = Agree (λ (r : Reads CallRead). call_at r.bytes r.at) (λ (r : Reads CallRead). r.read) call_reads
+CallsReadAt = Agree (λ (r : Reads (Option Call)). call_at r.bytes r.at) (λ (r : Reads (Option Call)). r.read) call_reads
 
 -- and writing at every offset gives what is said
 abbrev pub CallsWrittenAt : Type 0
@@ -174,24 +173,24 @@ reply place a = record { place = place; answer = a }
 -- Answer, 8 bytes: 41 4E, refusal number 0 to 12, place byte, value in four. With a number from 1 to 12 the value is zero.
 abbrev pub answer_rows : List (Has Reply)
 answer_rows =
-    reply 0 (Answer.Ok 12) is eight 0x41 0x4E 0x00 0x00 0x0C 0x00 0x00 0x00
-    ∷ reply 1 Answer.Board is eight 0x41 0x4E 0x01 0x01 0x00 0x00 0x00 0x00
-    ∷ reply 16 Answer.Place is eight 0x41 0x4E 0x02 0x10 0x00 0x00 0x00 0x00
-    ∷ reply 3 Answer.Busy is eight 0x41 0x4E 0x03 0x03 0x00 0x00 0x00 0x00
-    ∷ reply 4 Answer.Idle is eight 0x41 0x4E 0x04 0x04 0x00 0x00 0x00 0x00
-    ∷ reply 5 Answer.Worn is eight 0x41 0x4E 0x05 0x05 0x00 0x00 0x00 0x00
-    ∷ reply 6 Answer.Spoiled is eight 0x41 0x4E 0x06 0x06 0x00 0x00 0x00 0x00
-    ∷ reply 7 Answer.Held is eight 0x41 0x4E 0x07 0x07 0x00 0x00 0x00 0x00
-    ∷ reply 8 Answer.Key is eight 0x41 0x4E 0x08 0x08 0x00 0x00 0x00 0x00
-    ∷ reply 9 Answer.Conflict is eight 0x41 0x4E 0x09 0x09 0x00 0x00 0x00 0x00
-    ∷ reply 10 Answer.Prepared is eight 0x41 0x4E 0x0A 0x0A 0x00 0x00 0x00 0x00
-    ∷ reply 15 Answer.Full is eight 0x41 0x4E 0x0B 0x0F 0x00 0x00 0x00 0x00
-    ∷ reply 0 Answer.Record is eight 0x41 0x4E 0x0C 0x00 0x00 0x00 0x00 0x00
+    reply 0 (Ok 12) is eight 0x41 0x4E 0x00 0x00 0x0C 0x00 0x00 0x00
+    ∷ reply 1 (Err Refusal.Board) is eight 0x41 0x4E 0x01 0x01 0x00 0x00 0x00 0x00
+    ∷ reply 16 (Err Refusal.Place) is eight 0x41 0x4E 0x02 0x10 0x00 0x00 0x00 0x00
+    ∷ reply 3 (Err Refusal.Busy) is eight 0x41 0x4E 0x03 0x03 0x00 0x00 0x00 0x00
+    ∷ reply 4 (Err Refusal.Idle) is eight 0x41 0x4E 0x04 0x04 0x00 0x00 0x00 0x00
+    ∷ reply 5 (Err Refusal.Worn) is eight 0x41 0x4E 0x05 0x05 0x00 0x00 0x00 0x00
+    ∷ reply 6 (Err Refusal.Spoiled) is eight 0x41 0x4E 0x06 0x06 0x00 0x00 0x00 0x00
+    ∷ reply 7 (Err Refusal.Held) is eight 0x41 0x4E 0x07 0x07 0x00 0x00 0x00 0x00
+    ∷ reply 8 (Err Refusal.Key) is eight 0x41 0x4E 0x08 0x08 0x00 0x00 0x00 0x00
+    ∷ reply 9 (Err Refusal.Conflict) is eight 0x41 0x4E 0x09 0x09 0x00 0x00 0x00 0x00
+    ∷ reply 10 (Err Refusal.Prepared) is eight 0x41 0x4E 0x0A 0x0A 0x00 0x00 0x00 0x00
+    ∷ reply 15 (Err Refusal.Full) is eight 0x41 0x4E 0x0B 0x0F 0x00 0x00 0x00 0x00
+    ∷ reply 0 (Err Refusal.Record) is eight 0x41 0x4E 0x0C 0x00 0x00 0x00 0x00 0x00
     -- numbers are little-endian
-    ∷ reply 0 (Answer.Ok 0x04030201) is eight 0x41 0x4E 0x00 0x00 0x01 0x02 0x03 0x04
+    ∷ reply 0 (Ok 0x04030201) is eight 0x41 0x4E 0x00 0x00 0x01 0x02 0x03 0x04
     -- any place byte, and with OK any value
-    ∷ reply 255 (Answer.Ok 4_294_967_295) is eight 0x41 0x4E 0x00 0xFF 0xFF 0xFF 0xFF 0xFF
-    ∷ reply 255 Answer.Record is eight 0x41 0x4E 0x0C 0xFF 0x00 0x00 0x00 0x00
+    ∷ reply 255 (Ok 4_294_967_295) is eight 0x41 0x4E 0x00 0xFF 0xFF 0xFF 0xFF 0xFF
+    ∷ reply 255 (Err Refusal.Record) is eight 0x41 0x4E 0x0C 0xFF 0x00 0x00 0x00 0x00
     ∷ []
 
 -- bytes that are no answer record
@@ -233,35 +232,35 @@ ok_and_busy =
     ++ (0xEE ∷ [])
 
 -- reading takes the record at a given offset in lent bytes; an offset past the end is RECORD
-abbrev pub answer_reads : List (Reads AnswerRead)
+abbrev pub answer_reads : List (Reads (Option Reply))
 answer_reads =
-    reads ok_and_busy 0 AnswerRead.Record
-    ∷ reads ok_and_busy 1 (AnswerRead.Good (reply 2 (Answer.Ok 1)))
-    ∷ reads ok_and_busy 2 AnswerRead.Record
-    ∷ reads ok_and_busy 9 (AnswerRead.Good (reply 3 Answer.Busy))
-    ∷ reads ok_and_busy 10 AnswerRead.Record
-    ∷ reads ok_and_busy 11 AnswerRead.Record
-    ∷ reads ok_and_busy 17 AnswerRead.Record
-    ∷ reads ok_and_busy 18 AnswerRead.Record
-    ∷ reads ok_and_busy 19 AnswerRead.Record
-    ∷ reads ok_and_busy 18_446_744_073_709_551_615 AnswerRead.Record
+    reads ok_and_busy 0 None
+    ∷ reads ok_and_busy 1 (Some (reply 2 (Ok 1)))
+    ∷ reads ok_and_busy 2 None
+    ∷ reads ok_and_busy 9 (Some (reply 3 (Err Refusal.Busy)))
+    ∷ reads ok_and_busy 10 None
+    ∷ reads ok_and_busy 11 None
+    ∷ reads ok_and_busy 17 None
+    ∷ reads ok_and_busy 18 None
+    ∷ reads ok_and_busy 19 None
+    ∷ reads ok_and_busy 18_446_744_073_709_551_615 None
     ∷ []
 
 -- writing puts it from a given offset and changes no other byte; on RECORD no byte changes
 abbrev pub answer_writes : List (Writes Reply)
 answer_writes =
-    writes (replicate 10 0xEE) 0 (reply 2 (Answer.Ok 1)) (eight 0x41 0x4E 0x00 0x02 0x01 0x00 0x00 0x00 ++ 0xEE ∷ 0xEE ∷ [])
-    ∷ writes (replicate 10 0xEE) 2 (reply 3 Answer.Busy) (0xEE ∷ 0xEE ∷ eight 0x41 0x4E 0x03 0x03 0x00 0x00 0x00 0x00)
+    writes (replicate 10 0xEE) 0 (reply 2 (Ok 1)) (eight 0x41 0x4E 0x00 0x02 0x01 0x00 0x00 0x00 ++ 0xEE ∷ 0xEE ∷ [])
+    ∷ writes (replicate 10 0xEE) 2 (reply 3 (Err Refusal.Busy)) (0xEE ∷ 0xEE ∷ eight 0x41 0x4E 0x03 0x03 0x00 0x00 0x00 0x00)
     -- fewer than 8 bytes to write one in
-    ∷ refuses (replicate 10 0xEE) 3 (reply 3 Answer.Busy)
-    ∷ refuses (replicate 10 0xEE) 10 (reply 3 Answer.Busy)
-    ∷ refuses (replicate 10 0xEE) 11 (reply 3 Answer.Busy)
-    ∷ refuses (replicate 10 0xEE) 18_446_744_073_709_551_615 (reply 3 Answer.Busy)
-    ∷ refuses (replicate 7 0xEE) 0 (reply 3 Answer.Busy)
-    ∷ refuses [] 0 (reply 3 Answer.Busy)
+    ∷ refuses (replicate 10 0xEE) 3 (reply 3 (Err Refusal.Busy))
+    ∷ refuses (replicate 10 0xEE) 10 (reply 3 (Err Refusal.Busy))
+    ∷ refuses (replicate 10 0xEE) 11 (reply 3 (Err Refusal.Busy))
+    ∷ refuses (replicate 10 0xEE) 18_446_744_073_709_551_615 (reply 3 (Err Refusal.Busy))
+    ∷ refuses (replicate 7 0xEE) 0 (reply 3 (Err Refusal.Busy))
+    ∷ refuses [] 0 (reply 3 (Err Refusal.Busy))
     -- an answer that has no record: its place is above 255
-    ∷ refuses (replicate 10 0xEE) 0 (reply 256 (Answer.Ok 1))
-    ∷ refuses (replicate 10 0xEE) 0 (reply 4_294_967_295 Answer.Busy)
+    ∷ refuses (replicate 10 0xEE) 0 (reply 256 (Ok 1))
+    ∷ refuses (replicate 10 0xEE) 0 (reply 4_294_967_295 (Err Refusal.Busy))
     ∷ []
 
 -- every answer, written into eight bytes, gives its record
@@ -270,15 +269,15 @@ AnswersWritten = Agree (λ (r : Has Reply). written_answer (zeros 8) 0 r.what) (
 
 -- and every record, read, gives its answer
 abbrev pub AnswersRead : Type 0
-AnswersRead = Agree (λ (r : Has Reply). answer_at r.bytes 0) (λ (r : Has Reply). AnswerRead.Good r.what) answer_rows
+AnswersRead = Agree (λ (r : Has Reply). answer_at r.bytes 0) (λ (r : Has Reply). Some r.what) answer_rows
 
 -- what is no answer record is RECORD
 abbrev pub NoAnswersRead : Type 0
-NoAnswersRead = Agree (λ bs. answer_at bs 0) (λ bs. AnswerRead.Record) no_answers
+NoAnswersRead = Agree (λ bs. answer_at bs 0) (λ bs. None) no_answers
 
 -- at every offset
 abbrev pub AnswersReadAt : Type 0
-AnswersReadAt = Agree (λ (r : Reads AnswerRead). answer_at r.bytes r.at) (λ (r : Reads AnswerRead). r.read) answer_reads
+AnswersReadAt = Agree (λ (r : Reads (Option Reply)). answer_at r.bytes r.at) (λ (r : Reads (Option Reply)). r.read) answer_reads
 
 -- and writing at every offset gives what is said
 abbrev pub AnswersWrittenAt : Type 0

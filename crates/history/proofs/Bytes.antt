@@ -3,6 +3,7 @@
 --     desk_only                     one output tells the history of an input
 --     desk_speaks, serve_speaks     silence is none, where there is something to say
 -- Assumes nothing.
+use Rattle.std.specs.Prelude.{Option, Some, None, Err}
 use mathlib.Core.Path.{◌≡◌, refl, sym, ap, ◌∙◌, subst}
 use mathlib.Core.Bool.{Bool, true, false, cond, not, ◌&&◌}
 use mathlib.Core.List.{List, [], ◌∷◌, ◌++◌, map, append_assoc}
@@ -14,11 +15,9 @@ use lib.ListN.{length, get_or, take, drop, length-append, length-map, get_or-map
 use lib.Seq.{take_at, drop_at, drop-drop, drop-append-add, split_at, get_or-take, length-take-le}
 use borrow.Author.Tests.{ltb-true, ltb-false, lt-ltb, eqb-true, not-false}
 use Rattle.records.specs.declared.Call.{Call}
-use Rattle.records.specs.declared.Answer.{Answer}
-use Rattle.records.specs.declared.AnswerRead.{AnswerRead}
-use Rattle.records.specs.declared.CallRead.{CallRead}
+use Rattle.records.specs.declared.Refusal.{Refusal}
 use Rattle.records.specs.declared.Reply.{Reply}
-use Rattle.records.specs.Answers.{value_of, place_of}
+use Rattle.records.specs.Answers.{Answer, value_of, place_of}
 use Rattle.records.specs.Format.{call_bytes, answer_bytes, goes_in, key_of, new_value_of, call_fits, reply_fits, answer_of, answer_record}
 use Rattle.records.specs.Format.{call_in, call_at, answer_in, answer_at, put_at}
 use Rattle.records.proofs.RoundTrip.{calls, answers}
@@ -54,12 +53,12 @@ call_next bs i =
 
 -- record i is call i
 abbrev pub Stands : List ℕ → List Call → Type 0
-Stands bs cs = (i : ℕ) → i < length cs → call_at bs (call_bytes * i) ≡ CallRead.Good (get_or cs i no_start)
+Stands bs cs = (i : ℕ) → i < length cs → call_at bs (call_bytes * i) ≡ Some (get_or cs i no_start)
 
-one_call : (bs : List ℕ) (cs : List Call) (r : CallRead) → call_at bs 0 ≡ r → Stands (drop call_bytes bs) cs → Stands bs (read_then r cs)
-one_call bs cs (CallRead.Good c) e f zero h = e
-one_call bs cs (CallRead.Good c) e f (suc i) h = call_next bs i ∙ f i (le_of_suc-le-suc h)
-one_call bs cs CallRead.Record e f i h = absurd (not-suc-le-zero h)
+one_call : (bs : List ℕ) (cs : List Call) (r : Option Call) → call_at bs 0 ≡ r → Stands (drop call_bytes bs) cs → Stands bs (read_then r cs)
+one_call bs cs (Some c) e f zero h = e
+one_call bs cs (Some c) e f (suc i) h = call_next bs i ∙ f i (le_of_suc-le-suc h)
+one_call bs cs None e f i h = absurd (not-suc-le-zero h)
 
 pub calls_stand : (m : ℕ) (bs : List ℕ) → Stands bs (calls_in m bs)
 unfolding calls_in
@@ -68,12 +67,12 @@ calls_stand (suc m) bs = one_call bs (calls_in m (drop call_bytes bs)) (call_at 
 
 -- where there are fewer calls than so many records, no call stands behind the last
 abbrev Ends : ℕ → List ℕ → List Call → Type 0
-Ends m bs cs = (length cs ≤ m) × (length cs < m → call_at bs (call_bytes * length cs) ≡ CallRead.Record)
+Ends m bs cs = (length cs ≤ m) × (length cs < m → call_at bs (call_bytes * length cs) ≡ None)
 
-one_end : (m : ℕ) (bs : List ℕ) (cs : List Call) (r : CallRead) → call_at bs 0 ≡ r → Ends m (drop call_bytes bs) cs
+one_end : (m : ℕ) (bs : List ℕ) (cs : List Call) (r : Option Call) → call_at bs 0 ≡ r → Ends m (drop call_bytes bs) cs
     → Ends (suc m) bs (read_then r cs)
-one_end m bs cs (CallRead.Good c) e f = (omega (arith, f.0), λ h. call_next bs (length cs) ∙ f.1 (le_of_suc-le-suc h))
-one_end m bs cs CallRead.Record e f = (omega arith, λ h. e)
+one_end m bs cs (Some c) e f = (omega (arith, f.0), λ h. call_next bs (length cs) ∙ f.1 (le_of_suc-le-suc h))
+one_end m bs cs None e f = (omega arith, λ h. e)
 
 pub calls_end : (m : ℕ) (bs : List ℕ) → Ends m bs (calls_in m bs)
 unfolding calls_in
@@ -81,7 +80,7 @@ calls_end zero bs = (omega arith, λ h. absurd (not-suc-le-zero h))
 calls_end (suc m) bs = one_end m bs (calls_in m (drop call_bytes bs)) (call_at bs 0) refl (calls_end m (drop call_bytes bs))
 
 -- a call that was read has a record
-read_fits : (bs : List ℕ) (at : ℕ) (c : Call) → call_at bs at ≡ CallRead.Good c → call_fits c ≡ true
+read_fits : (bs : List ℕ) (at : ℕ) (c : Call) → call_at bs at ≡ Some c → call_fits c ≡ true
 read_fits bs at c e = ((calls.reads bs at c).0 e).0
 
 pub stands_fit : (bs : List ℕ) (cs : List Call) → Stands bs cs → (i : ℕ) → i < length cs → call_fits (get_or cs i no_start) ≡ true
@@ -133,7 +132,7 @@ same_reply h a e =
 
 -- a history whose answers have records, and the bytes of those
 module _ (hs : List Pair) (input output : List ℕ) (left : Bool)
-    (read : (i : ℕ) → i < length hs → call_at input (call_bytes * i) ≡ CallRead.Good (get_or hs i no_pair).call)
+    (read : (i : ℕ) → i < length hs → call_at input (call_bytes * i) ≡ Some (get_or hs i no_pair).call)
     (has : (i : ℕ) → i < length hs → Recorded (get_or hs i no_pair))
     (out : output ≡ records_of (map reply_to hs) ++ record_if left) where
   answered : (i : ℕ) → i < length hs → AnswerIs (get_or hs i no_pair) output i
@@ -145,7 +144,7 @@ module _ (hs : List Pair) (input output : List ℕ) (left : Bool)
       ap (λ (l : List ℕ). take answer_bytes (drop (answer_bytes * i) l)) out
       ∙ record_at (map reply_to hs) (record_if left) i (reply_to no_pair) (omega (arith, length-map hs reply_to))
       ∙ ap answer_record (get_or-map reply_to hs i no_pair) in
-      let stands : answer_at output (answer_bytes * i) ≡ AnswerRead.Good reply =
+      let stands : answer_at output (answer_bytes * i) ≡ Some reply =
       (answers.reads output (answer_bytes * i) reply).1 (r.fits, there ∙ ap answer_record (same_reply h r.answer r.same)) in
       record { answer = r.answer; same = r.same; stands = stands }
 
@@ -207,7 +206,7 @@ module _ (n : ℕ) (h : 0 < n) (m : n ≤ most_cells) (cs : List Call)
   answer_of_lem : (i : ℕ) → i < length cs → (a : Answer) × Answers (pair_at i) a
   answer_of_lem i g = cases (all_right n h m cs (take i pairs) (drop (suc i) pairs) (pair_at i) (split i g))
       (λ r. (verdict (ledger (take i pairs)) (pair_at i).call, r))
-      (λ r. (Answer.Full, r.0))
+      (λ r. (Err Refusal.Full, r.0))
 
   pub recorded : (i : ℕ) → i < length pairs → Recorded (pair_at i)
   recorded i l =
@@ -223,7 +222,7 @@ bytes_tell n h m cs input output left s out =
     let fit = stands_fit input cs s in
     let many : length (from_fresh n cs).pairs ≡ length cs = run_length (fresh_store n) cs in
     told (from_fresh n cs).pairs input output left
-    (λ i g. s i (omega arith) ∙ ap CallRead.Good (sym (fresh_call n h m cs fit i)))
+    (λ i g. s i (omega arith) ∙ ap Some (sym (fresh_call n h m cs fit i)))
     (recorded n h m cs fit)
     out
 
@@ -267,9 +266,9 @@ tells_one hs input output other left t u =
 silent_record : {A : Type 0} → [] ≡ answer_record no_call → A
 silent_record e = absurd (let l : length (answer_record no_call) ≡ answer_bytes = answers.long no_call in omega (arith, ap length e))
 
-silent_answer : {A : Type 0} (r : Reply) → answer_at [] 0 ≡ AnswerRead.Good r → A
+silent_answer : {A : Type 0} (r : Reply) → answer_at [] 0 ≡ Some r → A
 silent_answer r e =
-    let s : answer_at [] 0 ≡ AnswerRead.Record = answers.short [] 0 (omega arith) in
+    let s : answer_at [] 0 ≡ None = answers.short [] 0 (omega arith) in
     absurd (let z : ◌≡◌ {A = ℕ} 0 1 = cc in omega arith)
 
 silent_pairs : (hs : List Pair) (input : List ℕ) (left : Bool) → Tells hs input [] left → (length hs ≡ 0) × (left ≡ false)
@@ -295,7 +294,7 @@ record_unless true = refl
 record_unless false = refl
 
 -- no call stands behind the last, be it for bytes that are none or for the end
-last_call : (input : List ℕ) → call_at input (call_bytes * length (input_calls input)) ≡ CallRead.Record
+last_call : (input : List ℕ) → call_at input (call_bytes * length (input_calls input)) ≡ None
 last_call input =
     let e = calls_end (whole_calls input) input in
     let l : ℕ = length (input_calls input) in

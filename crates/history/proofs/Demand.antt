@@ -1,6 +1,7 @@
 -- Demand 3, for every sequence of calls on a fresh board: reads, apart, conflicts, final, and all four as demand3.
 --     Here, here     at every pair of a history stands a board in shape, linked to the ledger of the pairs before, whose step gave the answer
 -- Assumes nothing.
+use Rattle.std.specs.Prelude.{Ok, Err}
 use mathlib.Core.Path.{◌≡◌, refl, sym, ap, ◌∙◌, subst}
 use mathlib.Core.Logic.{◌↔◌}
 use mathlib.Core.Bool.{true}
@@ -11,7 +12,7 @@ use native.Mathlib.Omega.{arith}
 use lib.ListN.{length, get_or, replicate, length-replicate}
 use borrow.Author.Tests.{leb-false, lt-leb, le-leb, eq-eqb}
 use Rattle.records.specs.declared.Call.{Call}
-use Rattle.records.specs.declared.Answer.{Answer}
+use Rattle.records.specs.declared.Refusal.{Refusal}
 use Rattle.records.specs.Answers.{number_of}
 use Rattle.cells.specs.declared.Cell.{Cell}
 use Rattle.cells.specs.Cells.{no_cell, words_of, whole_cells}
@@ -49,7 +50,7 @@ module _ (st : Store) (L : Ledger) (s : in_shape st.board (length st.words) ≡ 
   unfolding step check_of first_of
   reaches p k v l m o = rw (s, lt-leb all_places p l, o, lt-leb all_keys k m)
 
-  refuses : (p k v : ℕ) → Reaches L p k → ((step st (Call.Update p k v)).said.number ≡ number_of Answer.Conflict) ↔ Contested L p k
+  refuses : (p k v : ℕ) → Reaches L p k → ((step st (Call.Update p k v)).said.number ≡ number_of (Err Refusal.Conflict)) ↔ Contested L p k
   refuses p k v r =
       let o = (𝓛.placed p r.place).state ∙ r.state in
       rw (reaches p k v r.place r.key o) (conflict_exact st L 𝓛 p k v r.place o r.first)
@@ -58,7 +59,7 @@ module _ (st : Store) (L : Ledger) (s : in_shape st.board (length st.words) ≡ 
   shown p k =
       on_step (λ (o : Outcome). o.said.number ≡ 0 → o.said.value ≡ sees L p k) st (Call.Read p k)
       (λ a h e. absurd (h.refusal e))
-      (λ g. read_right st L 𝓛 p k (leb-false _ _ (g Answer.Place)) (open_of (place_at b p).state (g Answer.Idle) (g Answer.Spoiled) (g Answer.Held)))
+      (λ g. read_right st L 𝓛 p k (leb-false _ _ (g (Err Refusal.Place))) (open_of (place_at b p).state (g (Err Refusal.Idle)) (g (Err Refusal.Spoiled)) (g (Err Refusal.Held))))
 
 -- ALONG A HISTORY
 
@@ -192,7 +193,7 @@ module _ (n : ℕ) (h : 0 < n) (l : n ≤ most_cells) where
     -- each read answered shows that transaction's own last write to the key, or else what the first n committed transactions leave
     pub reads : ReadsRight hs
     reads before after p k v e =
-        let s = at before after (answered_by (Call.Read p k) (Answer.Ok v)) e in
+        let s = at before after (answered_by (Call.Read p k) (Ok v)) e in
         ap (λ (x : Said). x.value) s.said
         ∙ shown s.store (ledger before) s.shape s.linked p k (sym (ap (λ (x : Said). x.number) s.said))
 

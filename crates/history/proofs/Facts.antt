@@ -1,5 +1,6 @@
 -- The rules' tests of a cell, as equations and orders of its words, and back.
 -- Assumes nothing.
+use Rattle.std.specs.Prelude.{Some, None}
 use mathlib.Core.Path.{◌≡◌, refl, sym, ap, ◌∙◌}
 use mathlib.Core.Logic.{◌⊎◌, inl, inr}
 use mathlib.Core.Bool.{Bool, true, false, not, ◌&&◌}
@@ -10,7 +11,6 @@ use lib.Dec.{leb, ltb, eqb}
 use lib.ListN.{length, get_or}
 use borrow.Author.Tests.{ltb-true, leb-true, eqb-true, eqb-false, not-true, lt-ltb, le-leb, eq-eqb, ne_eqb}
 use Rattle.cells.specs.declared.Cell.{Cell}
-use Rattle.cells.specs.declared.Found.{Found}
 use Rattle.cells.specs.Cells.{no_cell, empty, of_key, committed, own, foreign, seen_by}
 use Rattle.cells.specs.Rules.{pick_cell, has_cell, mine, own_at, visible, clashes, blocks, newer, between}
 use Rattle.cells.proofs.Meaning.{own_found, own_none}
@@ -154,8 +154,8 @@ pub newer_of : (c d : Cell) (k : ℕ) → c.word ≡ k + 1 → d.word ≡ k + 1 
 newer_of c d k e f h = both (both (eq-eqb _ _ (f ∙ sym e)) (committed_of d k f (omega arith))) (lt-ltb _ _ h)
 
 -- THE LOWEST OWN CELL
-pub own_draft : (t k : ℕ) (cs : List Cell) (i : ℕ) → own_at k t cs ≡ Found.At i → Draft (cell_at cs i) t k
+pub own_draft : (t k : ℕ) (cs : List Cell) (i : ℕ) → own_at k t cs ≡ Some i → Draft (cell_at cs i) t k
 own_draft t k cs i e = mine_draft (cell_at cs i) t k (own_found k t cs i e).passes
 
-pub no_draft : (t k : ℕ) (cs : List Cell) (i : ℕ) → own_at k t cs ≡ Found.Nothing → Draft (cell_at cs i) t k → ⊥
+pub no_draft : (t k : ℕ) (cs : List Cell) (i : ℕ) → own_at k t cs ≡ None → Draft (cell_at cs i) t k → ⊥
 no_draft t k cs i e d = clash (draft_mine (cell_at cs i) t k d) (own_none k t cs e i (in_cells cs i k d.word))

@@ -1,6 +1,7 @@
 -- FULL by the history alone: no cell is free exactly when as many different writes are still needed as there are cells.
 --     full_packed, packed_full     the two directions
 -- Assumes nothing.
+use Rattle.std.specs.Prelude.{Option, Some, None}
 use mathlib.Core.Path.{◌≡◌, refl, sym, ap, ◌∙◌, subst}
 use mathlib.Core.Logic.{◌⊎◌, inl, inr}
 use mathlib.Core.Bool.{Bool, true, false, cond, not, ◌&&◌, false≢true}
@@ -13,7 +14,6 @@ use lib.Dec.{leb, eqb}
 use lib.ListN.{length}
 use borrow.Author.Tests.{le-leb, leb-true, eq-eqb, ne_eqb, not-true, not-false}
 use Rattle.cells.specs.declared.Cell.{Cell}
-use Rattle.cells.specs.declared.Found.{Found}
 use Rattle.cells.specs.Cells.{empty, committed}
 use Rattle.cells.specs.Rules.{has_cell, newer, between, keeps}
 use Rattle.cells.proofs.Meaning.{has_none, none_has, lowest_found, lowest_none}
@@ -261,7 +261,7 @@ module _ (b : Board) (cs : List Cell) (L : Ledger) (𝓛 : Linked b cs L) where
   one_cell i j (version m k) d e = 𝓛.unique i j k m d e
 
   -- FULL
-  pub full_packed : reusable b.places cs ≡ Found.Nothing → Packed (length cs) L
+  pub full_packed : reusable b.places cs ≡ None → Packed (length cs) L
   unfolding Taken reusable
   full_packed e =
       record {
@@ -318,10 +318,10 @@ module _ (b : Board) (cs : List Cell) (L : Ledger) (𝓛 : Linked b cs L) where
     too_many : ⊥
     too_many = pigeons n (λ i. pick i (lt? i n)) (λ i h. pick_low i (lt? i n)) (λ i j h g e. pick_inj i j (lt? i n) (lt? j n) h g e)
 
-  pub packed_full : Packed (length cs) L → reusable b.places cs ≡ Found.Nothing
+  pub packed_full : Packed (length cs) L → reusable b.places cs ≡ None
   unfolding reusable
   packed_full P = go (reusable b.places cs) refl
     where
-      go : (o : Found) → reusable b.places cs ≡ o → o ≡ Found.Nothing
-      go (Found.At i) e = let r = lowest_found (free b.places cs) cs i e in absurd (too_many P i r.inside r.passes)
-      go Found.Nothing e = refl
+      go : (o : Option ℕ) → reusable b.places cs ≡ o → o ≡ None
+      go (Some i) e = let r = lowest_found (free b.places cs) cs i e in absurd (too_many P i r.inside r.passes)
+      go None e = refl

@@ -2,6 +2,7 @@
 --     all_right, full_right     the two promises of specs/Verdict
 --     decided                   so a ledger and the number of cells decide every answer
 -- Assumes nothing.
+use Rattle.std.specs.Prelude.{Option as Found, Some, None, Ok, Err}
 use mathlib.Core.Path.{◌≡◌, refl, sym, ap, ◌∙◌, subst}
 use mathlib.Core.Logic.{◌⊎◌, inl, inr, ◌↔◌}
 use mathlib.Core.Bool.{Bool, true, false, not, ◌&&◌, false≢true}
@@ -14,10 +15,9 @@ use lib.Dec.{leb, eqb}
 use lib.ListN.{length, take}
 use borrow.Author.Tests.{leb-true, leb-false, le-leb, eqb-true, eqb-false, eq-eqb, ne_eqb, not-true}
 use Rattle.records.specs.declared.Call.{Call}
-use Rattle.records.specs.declared.Answer.{Answer}
-use Rattle.records.specs.Answers.{number_of, place_of}
+use Rattle.records.specs.declared.Refusal.{Refusal}
+use Rattle.records.specs.Answers.{Answer, number_of, place_of}
 use Rattle.cells.specs.declared.Cell.{Cell}
-use Rattle.cells.specs.declared.Found.{Found}
 use Rattle.cells.specs.Cells.{of_key, foreign}
 use Rattle.cells.specs.Rules.{foreign_of, foreign_with}
 use Rattle.cells.proofs.Words.{length_cells}
@@ -168,7 +168,7 @@ module _ (st : Store) (L : Ledger) (s : in_shape st.board (length st.words) ≡ 
   -- THE STEPS PROPER
   -- what the step says is due; or it is FULL
   abbrev Due : Call → Outcome → Type 0
-  Due c o = (o.said ≡ said_of (due L c)) ⊎ ((o.said ≡ said_of Answer.Full) × NeedsCell L c)
+  Due c o = (o.said ≡ said_of (due L c)) ⊎ ((o.said ≡ said_of (Err Refusal.Full)) × NeedsCell L c)
 
   read_due : (p k : ℕ) → p < all_places → (place_at b p).state ≡ State.Open → Due (Call.Read p k) (read_as st p k)
   read_due p k l o =
@@ -176,7 +176,7 @@ module _ (st : Store) (L : Ledger) (s : in_shape st.board (length st.words) ≡ 
       (λ i f. inl (rw (own_cell b cs L 𝓛 p i k l (open_busy b cs L 𝓛 p o) (own_draft (number_at b p) k cs i f)) refl))
       (λ n t. inl (rw (not_written b cs L 𝓛 p k l n, held_hidden b cs L 𝓛 p k t) refl))
       (λ n t. inl (rw (not_written b cs L 𝓛 p k l n, not_hidden b cs L 𝓛 p k l o t)
-      (ap (λ (v : ℕ). said_of (Answer.Ok v))
+      (ap (λ (v : ℕ). said_of (Ok v))
       (live_read b cs L 𝓛 (view_at b p) (inr (p, l, o, refl)) k
       ∙ ap (λ (w : ℕ). leave (take w L.past) k) (𝓛.placed p l).view))))
 
@@ -202,12 +202,12 @@ module _ (st : Store) (L : Ledger) (s : in_shape st.board (length st.words) ≡ 
       ))
 
   done_due : (c : Call) → Cleared (facts st c) → Due c (done st c)
-  done_due (Call.Start p) g = inl (ap (λ (n : ℕ). said_of (Answer.Ok (n + 1))) 𝓛.begun)
-  done_due (Call.Read p k) g = read_due p k (leb-false _ _ (g Answer.Place)) (open_of (place_at b p).state (g Answer.Idle) (g Answer.Spoiled) (g Answer.Held))
+  done_due (Call.Start p) g = inl (ap (λ (n : ℕ). said_of (Ok (n + 1))) 𝓛.begun)
+  done_due (Call.Read p k) g = read_due p k (leb-false _ _ (g (Err Refusal.Place))) (open_of (place_at b p).state (g (Err Refusal.Idle)) (g (Err Refusal.Spoiled)) (g (Err Refusal.Held)))
   done_due (Call.Update p k v) g =
-      update_due p k v (leb-false _ _ (g Answer.Place)) (open_of (place_at b p).state (g Answer.Idle) (g Answer.Spoiled) (g Answer.Held)) (g Answer.Key)
+      update_due p k v (leb-false _ _ (g (Err Refusal.Place))) (open_of (place_at b p).state (g (Err Refusal.Idle)) (g (Err Refusal.Spoiled)) (g (Err Refusal.Held))) (g (Err Refusal.Key))
   done_due (Call.Prepare p) g = inl refl
-  done_due (Call.Commit p) g = inl (ap (λ (n : ℕ). said_of (Answer.Ok (n + 1))) 𝓛.counted)
+  done_due (Call.Commit p) g = inl (ap (λ (n : ℕ). said_of (Ok (n + 1))) 𝓛.counted)
   done_due (Call.Rollback p) g = inl refl
 
   -- EVERY CALL
@@ -219,10 +219,10 @@ module _ (st : Store) (L : Ledger) (s : in_shape st.board (length st.words) ≡ 
 
   -- FULL
   full_exact : (p k v : ℕ) → Reaches L p k → contested L p k ≡ false
-      → ((step st (Call.Update p k v)).said.number ≡ number_of Answer.Full) ↔ Packed (length cs) L
+      → ((step st (Call.Update p k v)).said.number ≡ number_of (Err Refusal.Full)) ↔ Packed (length cs) L
   full_exact p k v r c =
       let o = (𝓛.placed p r.place).state ∙ r.state in
-      let P : Outcome → Type 0 = λ x. (x.said.number ≡ number_of Answer.Full) ↔ Packed (length cs) L in
+      let P : Outcome → Type 0 = λ x. (x.said.number ≡ number_of (Err Refusal.Full)) ↔ Packed (length cs) L in
       rw (reaches st L s 𝓛 p k v r.place r.key o)
       (on_update P st p k v
       (λ i f. none_some (wrote L p k) (cell_at cs i).value r.first
@@ -231,7 +231,7 @@ module _ (st : Store) (L : Ledger) (s : in_shape st.board (length st.words) ≡ 
       (λ n t i f. (λ e. absurd (omega arith), λ q. absurd (nothing_found (reusable b.places cs) i f (packed_full b cs L 𝓛 q))))
       (λ n t f. (λ _. full_packed b cs L 𝓛 f, λ _. refl)))
     where
-      nothing_found : (x : Found) (i : ℕ) → x ≡ Found.At i → x ≡ Found.Nothing → ⊥
+      nothing_found : (x : Found ℕ) (i : ℕ) → x ≡ Some i → x ≡ None → ⊥
       nothing_found x i e f = let z : ◌≡◌ {A = ℕ} 0 1 = cc in omega arith
 
 pub all_right : AllRight
@@ -248,33 +248,33 @@ full_right n h l calls before after x e need =
     ap (λ (x : Said). x.number) s.said ∙ ap (λ (c : Call). (step s.store c).said.number) need.call in
     let m : length (cells_in s.store) ≡ n = length_cells s.store.words ∙ ap (λ (w : ℕ). w / 4) s.sized ∙ empty_count n in
     let r = full_exact s.store (ledger before) s.shape s.linked need.place need.key need.value need.reaches need.clear in
-    subst (λ (u : ℕ). (u ≡ number_of Answer.Full) ↔ Packed n (ledger before)) (sym y)
-    (subst (λ (j : ℕ). ((step s.store c).said.number ≡ number_of Answer.Full) ↔ Packed j (ledger before)) m r)
+    subst (λ (u : ℕ). (u ≡ number_of (Err Refusal.Full)) ↔ Packed n (ledger before)) (sym y)
+    (subst (λ (j : ℕ). ((step s.store c).said.number ≡ number_of (Err Refusal.Full)) ↔ Packed j (ledger before)) m r)
 
 -- A LEDGER AND THE NUMBER OF CELLS DECIDE
 
-is_full : (a : Answer) → number_of a ≡ 11 → a ≡ Answer.Full
-is_full (Answer.Ok v) e = absurd (omega arith)
-is_full Answer.Board e = absurd (omega arith)
-is_full Answer.Place e = absurd (omega arith)
-is_full Answer.Busy e = absurd (omega arith)
-is_full Answer.Idle e = absurd (omega arith)
-is_full Answer.Worn e = absurd (omega arith)
-is_full Answer.Spoiled e = absurd (omega arith)
-is_full Answer.Held e = absurd (omega arith)
-is_full Answer.Key e = absurd (omega arith)
-is_full Answer.Conflict e = absurd (omega arith)
-is_full Answer.Prepared e = absurd (omega arith)
-is_full Answer.Full e = refl
-is_full Answer.Record e = absurd (omega arith)
+is_full : (a : Answer) → number_of a ≡ 11 → a ≡ Err Refusal.Full
+is_full (Ok v) e = absurd (omega arith)
+is_full (Err Refusal.Board) e = absurd (omega arith)
+is_full (Err Refusal.Place) e = absurd (omega arith)
+is_full (Err Refusal.Busy) e = absurd (omega arith)
+is_full (Err Refusal.Idle) e = absurd (omega arith)
+is_full (Err Refusal.Worn) e = absurd (omega arith)
+is_full (Err Refusal.Spoiled) e = absurd (omega arith)
+is_full (Err Refusal.Held) e = absurd (omega arith)
+is_full (Err Refusal.Key) e = absurd (omega arith)
+is_full (Err Refusal.Conflict) e = absurd (omega arith)
+is_full (Err Refusal.Prepared) e = absurd (omega arith)
+is_full (Err Refusal.Full) e = refl
+is_full (Err Refusal.Record) e = absurd (omega arith)
 
 module _ (n : ℕ) (L : Ledger) where
   abbrev ExactFull : Pair → Type 0
-  ExactFull x = NeedsCell L x.call → (x.said.number ≡ number_of Answer.Full) ↔ Packed n L
+  ExactFull x = NeedsCell L x.call → (x.said.number ≡ number_of (Err Refusal.Full)) ↔ Packed n L
 
   -- one has the verdict, the other FULL
   mixed : (x y : Pair) → x.call ≡ y.call → ExactFull x → ExactFull y → Answers x (verdict L x.call)
-      → Answers y Answer.Full → NeedsCell L y.call → x.said ≡ y.said
+      → Answers y (Err Refusal.Full) → NeedsCell L y.call → x.said ≡ y.said
   mixed x y c f g a b need =
       let number : (s t : Said) → s ≡ t → s.number ≡ t.number = λ s t. ap (λ (u : Said). u.number) in
       let e : x.said.number ≡ 11 = (f (subst (λ (d : Call). NeedsCell L d) (sym c) need)).1 ((g need).0 (number _ _ b)) in

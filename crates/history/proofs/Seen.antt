@@ -1,5 +1,6 @@
 -- What a linked board answers to a read, what it holds, and when it refuses an update for conflict.
 -- Assumes nothing.
+use Rattle.std.specs.Prelude.{None, Err}
 use mathlib.Core.Path.{◌≡◌, refl, sym, ap, ◌∙◌}
 use mathlib.Core.Logic.{inl, inr, ◌↔◌}
 use mathlib.Core.Bool.{Bool, true, false, ◌&&◌}
@@ -10,10 +11,9 @@ use Prim.Native.Nat.{ℕ, suc, ◌+◌, ◌≤◌, ◌<◌}
 use native.Mathlib.Omega.{arith}
 use lib.ListN.{length, take}
 use lib.Seq.{take-length}
-use Rattle.records.specs.declared.Answer.{Answer}
+use Rattle.records.specs.declared.Refusal.{Refusal}
 use Rattle.records.specs.Answers.{number_of}
 use Rattle.cells.specs.declared.Cell.{Cell}
-use Rattle.cells.specs.declared.Found.{Found}
 use Rattle.cells.specs.Cells.{no_cell}
 use Rattle.cells.specs.Rules.{pick_cell, newest, own_at, visible, newest_seen, blocks, conflict}
 use Rattle.cells.proofs.Meaning.{Newest, has_found, some_has, seen_means}
@@ -86,7 +86,7 @@ module _ (b : Board) (cs : List Cell) (L : Ledger) (𝓛 : Linked b cs L) where
   board_holds k =
       ap (λ (c : Cell). c.value) (newest_seen_lem b.commits (omega arith) k) ∙ live_read b.commits (inl refl) k ∙ rw (𝓛.counted, take-length)
 
-  pub not_written : (p k : ℕ) → p < all_places → own_at k (number_at b p) cs ≡ Found.Nothing → wrote L p k ≡ none
+  pub not_written : (p k : ℕ) → p < all_places → own_at k (number_at b p) cs ≡ None → wrote L p k ≡ none
   not_written p k l n = cases (none? (wrote L p k)) (λ e. e)
       (λ s. let r = 𝓛.drafted p k s.0 l s.1 in absurd (no_draft (number_at b p) k cs r.0 n r.1))
 
@@ -151,7 +151,7 @@ module _ (st : Store) (L : Ledger) (𝓛 : Linked st.board (cells_in st) L) wher
       (λ n _ _. live_read b cs L 𝓛 (view_at b p) (inr (p, l, o, refl)) k ∙ rw (not_written b cs L 𝓛 p k l n, (𝓛.placed p l).view))
 
   abbrev Exact : ℕ → ℕ → Outcome → Type 0
-  Exact p k o = (o.said.number ≡ number_of Answer.Conflict) ↔ Contested L p k
+  Exact p k o = (o.said.number ≡ number_of (Err Refusal.Conflict)) ↔ Contested L p k
 
   pub conflict_exact : (p k new : ℕ) → p < all_places → (place_at b p).state ≡ State.Open → wrote L p k ≡ none
       → Exact p k (updated_as st p k new)

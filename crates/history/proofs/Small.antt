@@ -2,6 +2,7 @@
 --     small_ledger     no write in a ledger is above the bound
 --     step_small       no answer's value is
 -- Assumes nothing.
+use Rattle.std.specs.Prelude.{Err}
 use mathlib.Core.Path.{◌≡◌, refl, sym, ◌∙◌}
 use mathlib.Core.Logic.{inr}
 use mathlib.Core.Bool.{true}
@@ -13,7 +14,7 @@ use native.Mathlib.Omega.{arith}
 use lib.ListN.{length, get_or, take}
 use borrow.Author.Tests.{leb-false}
 use Rattle.records.specs.declared.Call.{Call}
-use Rattle.records.specs.declared.Answer.{Answer}
+use Rattle.records.specs.declared.Refusal.{Refusal}
 use Rattle.records.specs.Format.{new_value_of}
 use Rattle.records.proofs.Fields.{All}
 use Rattle.cells.specs.declared.Cell.{Cell}
@@ -133,10 +134,10 @@ module _ (B : ℕ) (positive : 0 < B) where
     Below o = o.said.value < B
 
     done_small : (c : Call) → Cleared (facts st c) → Below (done st c)
-    done_small (Call.Start p) g = omega (arith, leb-false most_starts b.starts (g Answer.Worn))
+    done_small (Call.Start p) g = omega (arith, leb-false most_starts b.starts (g (Err Refusal.Worn)))
     done_small (Call.Read p k) g =
-        let l = leb-false all_places p (g Answer.Place) in
-        let o = open_of (place_at b p).state (g Answer.Idle) (g Answer.Spoiled) (g Answer.Held) in
+        let l = leb-false all_places p (g (Err Refusal.Place)) in
+        let o = open_of (place_at b p).state (g (Err Refusal.Idle)) (g (Err Refusal.Spoiled)) (g (Err Refusal.Held)) in
         on_read Below st p k
         (λ i f. small.runs p k (cell_at cs i).value (own_cell b cs L 𝓛 p i k l (open_busy b cs L 𝓛 p o) (own_draft (number_at b p) k cs i f)))
         (λ n t. positive)

@@ -2,6 +2,7 @@
 --     step_links, step_fair     for any call
 --     note_plain                a refusal but CONFLICT leaves no trace
 -- Assumes nothing.
+use Rattle.std.specs.Prelude.{Ok, Err}
 use mathlib.Core.Path.{◌≡◌, refl, sym, ap, ◌∙◌}
 use mathlib.Core.Logic.{inl, inr}
 use mathlib.Core.Bool.{true, false, not, false≢true}
@@ -11,8 +12,8 @@ use native.Mathlib.Omega.{arith}
 use lib.ListN.{length, set}
 use borrow.Author.Tests.{leb-false, eqb-true, not-false, ne_eqb}
 use Rattle.records.specs.declared.Call.{Call}
-use Rattle.records.specs.declared.Answer.{Answer}
-use Rattle.records.specs.Answers.{number_of}
+use Rattle.records.specs.declared.Refusal.{Refusal}
+use Rattle.records.specs.Answers.{Answer, number_of}
 use Rattle.cells.specs.declared.Cell.{Cell}
 use Rattle.cells.specs.Cells.{empty}
 use Rattle.cells.specs.Rules.{valued}
@@ -41,16 +42,16 @@ use Rattle.history.proofs.Fair.{Fair, fair_tick, fair_start, fair_turn, fair_rea
 
 -- A REFUSAL BUT CONFLICT LEAVES NO TRACE
 
-refuse_plain : (L : Ledger) (c : Call) (n : ℕ) → (n ≡ number_of Answer.Conflict → ⊥) → refuse L c n ≡ tick L L.at L.past
+refuse_plain : (L : Ledger) (c : Call) (n : ℕ) → (n ≡ number_of (Err Refusal.Conflict) → ⊥) → refuse L c n ≡ tick L L.at L.past
 unfolding refuse
 refuse_plain L (Call.Start p) n e = refl
 refuse_plain L (Call.Read p k) n e = refl
-refuse_plain L (Call.Update p k new) n e = rw (ne_eqb n (number_of Answer.Conflict) e)
+refuse_plain L (Call.Update p k new) n e = rw (ne_eqb n (number_of (Err Refusal.Conflict)) e)
 refuse_plain L (Call.Prepare p) n e = refl
 refuse_plain L (Call.Commit p) n e = refl
 refuse_plain L (Call.Rollback p) n e = refl
 
-pub note_plain : (L : Ledger) (h : Pair) → (h.said.number ≡ 0 → ⊥) → (h.said.number ≡ number_of Answer.Conflict → ⊥)
+pub note_plain : (L : Ledger) (h : Pair) → (h.said.number ≡ 0 → ⊥) → (h.said.number ≡ number_of (Err Refusal.Conflict) → ⊥)
     → note L h ≡ tick L L.at L.past
 note_plain L h e f = rw (ne_eqb h.said.number 0 e) (refuse_plain L h.call h.said.number f)
 
@@ -97,7 +98,7 @@ module _ (st : Store) (L : Ledger) (𝓛 : Linked st.board (cells_in st) L) wher
       in_shape o.store.board (length o.store.words) ≡ true
       → Linked o.store.board (cells_in o.store) (note L (pair_with c o))
 
-  refused : (c : Call) (a : Answer) → (number_of a ≡ 0 → ⊥) → (number_of a ≡ number_of Answer.Conflict → ⊥) → Kept c (answered a st)
+  refused : (c : Call) (a : Answer) → (number_of a ≡ 0 → ⊥) → (number_of a ≡ number_of (Err Refusal.Conflict) → ⊥) → Kept c (answered a st)
   refused c a e f s = rw (note_plain L (pair_with c (answered a st)) e f) (tick_links b cs L 𝓛)
 
   -- the open place of a read, an update or a prepare
@@ -109,7 +110,7 @@ module _ (st : Store) (L : Ledger) (𝓛 : Linked st.board (cells_in st) L) wher
   -- the lowest empty or spent cell
   free_links : (p k v : ℕ) → p < all_places → (place_at b p).state ≡ State.Open
       → (i : ℕ) → Lowest (free b.places cs) cs i → ((j : ℕ) → Draft (cell_at cs j) (number_at b p) k → ⊥)
-      → Linked b (set cs i (draft k v (number_at b p))) (accept L (Call.Update p k v) (said_of (Answer.Ok 0)))
+      → Linked b (set cs i (draft k v (number_at b p))) (accept L (Call.Update p k v) (said_of (Ok 0)))
   unfolding accept
   free_links p k v l o i f none =
       let h = or_cases (empty (cell_at cs i)) (spent b.places cs (cell_at cs i)) f.passes in
@@ -125,7 +126,7 @@ module _ (st : Store) (L : Ledger) (𝓛 : Linked st.board (cells_in st) L) wher
       (λ e. spent_successor b cs L 𝓛 i e w live m j a q q'))
 
   own_links : (p k v i : ℕ) → p < all_places → (place_at b p).state ≡ State.Open → i < length cs → Draft (cell_at cs i) (number_at b p) k
-      → Linked b (set cs i (draft k v (number_at b p))) (accept L (Call.Update p k v) (said_of (Answer.Ok 0)))
+      → Linked b (set cs i (draft k v (number_at b p))) (accept L (Call.Update p k v) (said_of (Ok 0)))
   unfolding accept
   own_links p k v i l o h d =
       write_links b cs L 𝓛 p k v i l o h
@@ -145,32 +146,32 @@ module _ (st : Store) (L : Ledger) (𝓛 : Linked st.board (cells_in st) L) wher
       (λ n t i f s.
       rw (cells_with ws (set cs i (draft k v (number_at b p))))
       (free_links p k v l o i (lowest_found (free b.places cs) cs i f) (λ j d. no_draft (number_at b p) k cs j n d)))
-      (λ n t f. refused (Call.Update p k v) Answer.Full (λ e. omega arith) (λ e. omega arith))
+      (λ n t f. refused (Call.Update p k v) (Err Refusal.Full) (λ e. omega arith) (λ e. omega arith))
 
   read_kept : (p k : ℕ) → Kept (Call.Read p k) (read_as st p k)
   unfolding accept
   read_kept p k =
       on_read (Kept (Call.Read p k)) st p k
       (λ i f s. read_links b cs L 𝓛 p k _)
-      (λ n t. refused (Call.Read p k) Answer.Prepared (λ e. omega arith) (λ e. omega arith))
+      (λ n t. refused (Call.Read p k) (Err Refusal.Prepared) (λ e. omega arith) (λ e. omega arith))
       (λ n t s. read_links b cs L 𝓛 p k _)
 
   -- EVERY CALL
   done_links : (c : Call) → Cleared (facts st c) → Kept c (done st c)
   unfolding accept
   done_links (Call.Start p) g s =
-      start_links b cs L 𝓛 p (leb-false _ _ (g Answer.Place)) (idle_of _ (not-false _ (g Answer.Busy))) (shape_of _ _ s).apart
+      start_links b cs L 𝓛 p (leb-false _ _ (g (Err Refusal.Place))) (idle_of _ (not-false _ (g (Err Refusal.Busy)))) (shape_of _ _ s).apart
   done_links (Call.Read p k) g s = read_kept p k s
   done_links (Call.Update p k v) g s =
-      update_links p k v (leb-false _ _ (g Answer.Place)) (open_of (place_at b p).state (g Answer.Idle) (g Answer.Spoiled) (g Answer.Held)) s
+      update_links p k v (leb-false _ _ (g (Err Refusal.Place))) (open_of (place_at b p).state (g (Err Refusal.Idle)) (g (Err Refusal.Spoiled)) (g (Err Refusal.Held))) s
   done_links (Call.Prepare p) g s =
-      turn_links b cs L 𝓛 p State.Prepared (leb-false _ _ (g Answer.Place)) prepared≢idle prepared≢open (shape_of _ _ s).apart
+      turn_links b cs L 𝓛 p State.Prepared (leb-false _ _ (g (Err Refusal.Place))) prepared≢idle prepared≢open (shape_of _ _ s).apart
   done_links (Call.Commit p) g s =
       rw (cells_with ws (map _ cs))
-      (commit_links b cs L 𝓛 p (leb-false _ _ (g Answer.Place)) (opened p (g Answer.Idle)) (shape_of _ _ s).apart)
+      (commit_links b cs L 𝓛 p (leb-false _ _ (g (Err Refusal.Place))) (opened p (g (Err Refusal.Idle))) (shape_of _ _ s).apart)
   done_links (Call.Rollback p) g s =
       rw (cells_with ws (map _ cs))
-      (rollback_links b cs L 𝓛 p (leb-false _ _ (g Answer.Place)) (opened p (g Answer.Idle)) (shape_of _ _ s).apart)
+      (rollback_links b cs L 𝓛 p (leb-false _ _ (g (Err Refusal.Place))) (opened p (g (Err Refusal.Idle))) (shape_of _ _ s).apart)
 
   pub step_links : (c : Call) → in_shape b (length ws) ≡ true
       → Linked (step st c).store.board (cells_in (step st c).store) (note L (pair_of st c))
@@ -181,7 +182,7 @@ module _ (st : Store) (L : Ledger) (𝓛 : Linked st.board (cells_in st) L) wher
     abbrev StaysFair : Call → Outcome → Type 0
     StaysFair c o = Fair (note L (pair_with c o))
 
-    refused_fair : (c : Call) (a : Answer) → (number_of a ≡ 0 → ⊥) → (number_of a ≡ number_of Answer.Conflict → ⊥) → StaysFair c (answered a st)
+    refused_fair : (c : Call) (a : Answer) → (number_of a ≡ 0 → ⊥) → (number_of a ≡ number_of (Err Refusal.Conflict) → ⊥) → StaysFair c (answered a st)
     refused_fair c a e g = rw (note_plain L (pair_with c (answered a st)) e g) (fair_tick L f)
 
     update_fair : (p k v : ℕ) → p < all_places → (place_at b p).state ≡ State.Open → StaysFair (Call.Update p k v) (updated_as st p k v)
@@ -192,7 +193,7 @@ module _ (st : Store) (L : Ledger) (𝓛 : Linked st.board (cells_in st) L) wher
         (λ i e. fair_write L f p k v l (inl ((cell_at cs i).value, own_cell b cs L 𝓛 p i k l h (own_draft (number_at b p) k cs i e))))
         (λ n t. fair_turn L f p State.Spoiled l)
         (λ n t i _. fair_write L f p k v l (inr (λ c. clash (contested_conflict b cs L 𝓛 p k l h c) t)))
-        (λ n t _. refused_fair (Call.Update p k v) Answer.Full (λ e. omega arith) (λ e. omega arith))
+        (λ n t _. refused_fair (Call.Update p k v) (Err Refusal.Full) (λ e. omega arith) (λ e. omega arith))
 
     -- an outcome that is OK, with the value that the transaction sees, or PREPARED
     read_fair : (p k : ℕ) → p < all_places → (place_at b p).state ≡ State.Open → StaysFair (Call.Read p k) (read_as st p k)
@@ -200,7 +201,7 @@ module _ (st : Store) (L : Ledger) (𝓛 : Linked st.board (cells_in st) L) wher
     read_fair p k l o =
         on_read (λ (x : Outcome). (x.said.number ≡ 0 → x.said.value ≡ sees L p k) → StaysFair (Call.Read p k) x) st p k
         (λ i e r. fair_read L f p k _ l (r refl))
-        (λ n t r. refused_fair (Call.Read p k) Answer.Prepared (λ e. omega arith) (λ e. omega arith))
+        (λ n t r. refused_fair (Call.Read p k) (Err Refusal.Prepared) (λ e. omega arith) (λ e. omega arith))
         (λ n t r. fair_read L f p k _ l (r refl))
         (read_right st L 𝓛 p k l o)
 
@@ -208,11 +209,11 @@ module _ (st : Store) (L : Ledger) (𝓛 : Linked st.board (cells_in st) L) wher
     unfolding accept
     done_fair (Call.Start p) g = fair_start L f p
     done_fair (Call.Read p k) g =
-        read_fair p k (leb-false _ _ (g Answer.Place)) (open_of (place_at b p).state (g Answer.Idle) (g Answer.Spoiled) (g Answer.Held))
+        read_fair p k (leb-false _ _ (g (Err Refusal.Place))) (open_of (place_at b p).state (g (Err Refusal.Idle)) (g (Err Refusal.Spoiled)) (g (Err Refusal.Held)))
     done_fair (Call.Update p k v) g =
-        update_fair p k v (leb-false _ _ (g Answer.Place)) (open_of (place_at b p).state (g Answer.Idle) (g Answer.Spoiled) (g Answer.Held))
-    done_fair (Call.Prepare p) g = fair_turn L f p State.Prepared (leb-false _ _ (g Answer.Place))
-    done_fair (Call.Commit p) g = fair_commit L f t p (leb-false _ _ (g Answer.Place))
+        update_fair p k v (leb-false _ _ (g (Err Refusal.Place))) (open_of (place_at b p).state (g (Err Refusal.Idle)) (g (Err Refusal.Spoiled)) (g (Err Refusal.Held)))
+    done_fair (Call.Prepare p) g = fair_turn L f p State.Prepared (leb-false _ _ (g (Err Refusal.Place)))
+    done_fair (Call.Commit p) g = fair_commit L f t p (leb-false _ _ (g (Err Refusal.Place)))
     done_fair (Call.Rollback p) g = fair_rollback L f p
 
     pub step_fair : (c : Call) → Fair (note L (pair_of st c))

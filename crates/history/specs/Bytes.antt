@@ -1,11 +1,8 @@
 -- From calls to bytes: what the desk and `serve` write are the answers of a history.
 -- Assumes nothing.
-use Rattle.std.specs.Prelude.{◌≡◌, Bool, true, cond, not, List, [], ℕ, ◌*◌, ◌≤◌, ◌<◌, eqb, ltb, length, get_or, take, drop}
+use Rattle.std.specs.Prelude.{◌≡◌, Bool, true, cond, not, List, [], ℕ, ◌*◌, ◌≤◌, ◌<◌, eqb, ltb, length, get_or, take, drop, Some, None}
 use Rattle.records.specs.declared.Call.{Call}
-use Rattle.records.specs.declared.Answer.{Answer}
-use Rattle.records.specs.declared.CallRead.{CallRead}
-use Rattle.records.specs.declared.AnswerRead.{AnswerRead}
-use Rattle.records.specs.Answers.{place_of}
+use Rattle.records.specs.Answers.{Answer, place_of}
 use Rattle.records.specs.Format.{call_bytes, answer_bytes, call_at, answer_at, answer_record}
 use Rattle.steps.specs.Record.{most_cells}
 use Rattle.steps.specs.Store.{fresh_store}
@@ -21,12 +18,12 @@ use Rattle.history.specs.Verdict.{Answers}
 pub record AnswerIs (h : Pair) (output : List ℕ) (i : ℕ) : Type 0 where
   pub answer : Answer
   pub same : Answers h answer
-  pub stands : answer_at output (answer_bytes * i) ≡ AnswerRead.Good (record { place = place_of h.call; answer = answer })
+  pub stands : answer_at output (answer_bytes * i) ≡ Some (record { place = place_of h.call; answer = answer })
 
 -- bytes of calls and bytes of answers tell a history: record by record they are its calls and its answers; and behind the answers
 -- stands RECORD with place 0 and value 0 once where bytes are left that are no call, and nothing otherwise
 pub record Tells (hs : List Pair) (input output : List ℕ) (left : Bool) : Type 0 where
-  pub called : (i : ℕ) → i < length hs → call_at input (call_bytes * i) ≡ CallRead.Good (get_or hs i no_pair).call
+  pub called : (i : ℕ) → i < length hs → call_at input (call_bytes * i) ≡ Some (get_or hs i no_pair).call
   pub answered : (i : ℕ) → i < length hs → AnswerIs (get_or hs i no_pair) output i
   pub behind : drop (answer_bytes * length hs) output ≡ cond left (answer_record no_call) []
 
@@ -44,7 +41,7 @@ bytes_left input = not (eqb (call_bytes * length (input_calls input)) (length in
 -- last of the calls there stands no call, and the history has all that demand 3 says
 pub record DeskTells (n : ℕ) (input output : List ℕ) : Type 0 where
   pub tells : Tells (from_fresh n (input_calls input)).pairs input output (bytes_left input)
-  pub last : call_at input (call_bytes * length (input_calls input)) ≡ CallRead.Record
+  pub last : call_at input (call_bytes * length (input_calls input)) ≡ None
   pub demand3 : Demand3 (from_fresh n (input_calls input))
 
 -- what the desk writes for any input tells its history on a fresh board of 1,024 cells
@@ -76,7 +73,7 @@ pub record ServeTells (n : ℕ) (input lent : List ℕ) (served : Serving) : Typ
   pub tells : Tells (from_fresh n (tried_calls input (length lent))).pairs input (take served.written served.answers)
       (met_no_call input (length lent))
   pub last : met_no_call input (length lent) ≡ true
-      → call_at input (call_bytes * length (tried_calls input (length lent))) ≡ CallRead.Record
+      → call_at input (call_bytes * length (tried_calls input (length lent))) ≡ None
   pub taken : served.taken ≡ call_bytes * length (tried_calls input (length lent))
   pub store : served.store ≡ (from_fresh n (tried_calls input (length lent))).store
   pub demand3 : Demand3 (from_fresh n (tried_calls input (length lent)))

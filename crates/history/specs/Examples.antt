@@ -1,13 +1,14 @@
 -- Closed histories: cases 2, 5 and 9 of document 01, two transactions that overlapped, and stores that cheat.
 -- Assumes nothing.
-use Rattle.std.specs.Prelude.{◌≡◌, Bool, true, not, ◌&&◌, List, [], ◌∷◌, ◌++◌, ℕ}
+use Rattle.std.specs.Prelude.{◌≡◌, Bool, true, not, ◌&&◌, List, [], ◌∷◌, ◌++◌, ℕ, Ok, Err}
 use Rattle.records.specs.declared.Call.{Call}
-use Rattle.records.specs.declared.Answer.{Answer}
+use Rattle.records.specs.declared.Refusal.{Refusal}
 use Rattle.steps.specs.Store.{said_of}
 use Rattle.steps.specs.Run.{Pair, calls_of}
 use Rattle.steps.specs.Situations.{◌gives◌, same_said, Situation, first_commit}
 use Rattle.history.specs.History.{Ledger, new_ledger, note, ledger, from_fresh, OverlappedApart}
 use Rattle.history.specs.Verdict.{verdict}
+use Rattle.records.specs.Answers.{Answer}
 
 -- the situation's history is the one that document 01 tells
 abbrev pub AsTold : Situation → Type 0
@@ -18,19 +19,19 @@ AsTold s = (from_fresh s.cells (calls_of s.pairs)).pairs ≡ s.pairs
 -- places 0 and 1 open before either commits. Place 0 writes key 1 and commits, then place 1 writes a key and commits
 abbrev pub write_in_turn : ℕ → List Pair
 write_in_turn key =
-    Call.Update 0 1 3 gives Answer.Ok 0
-    ∷ Call.Commit 0 gives Answer.Ok 1
-    ∷ Call.Update 1 key 4 gives Answer.Ok 0
-    ∷ Call.Commit 1 gives Answer.Ok 2
+    Call.Update 0 1 3 gives Ok 0
+    ∷ Call.Commit 0 gives Ok 1
+    ∷ Call.Update 1 key 4 gives Ok 0
+    ∷ Call.Commit 1 gives Ok 2
     ∷ []
 
 -- the first to commit began first
 abbrev pub first_began_first : ℕ → List Pair
-first_began_first key = Call.Start 0 gives Answer.Ok 1 ∷ Call.Start 1 gives Answer.Ok 2 ∷ write_in_turn key
+first_began_first key = Call.Start 0 gives Ok 1 ∷ Call.Start 1 gives Ok 2 ∷ write_in_turn key
 
 -- the last to commit began first
 abbrev pub last_began_first : ℕ → List Pair
-last_began_first key = Call.Start 1 gives Answer.Ok 1 ∷ Call.Start 0 gives Answer.Ok 2 ∷ write_in_turn key
+last_began_first key = Call.Start 1 gives Ok 1 ∷ Call.Start 0 gives Ok 2 ∷ write_in_turn key
 
 -- demand 3 does not allow these answers
 abbrev pub SharedKey : List Pair → Type 0
@@ -70,10 +71,10 @@ all_caught (c ∷ cs) = caught c && all_caught cs
 abbrev pub views_alone : Cheat
 views_alone =
     record {
-      before = Call.Start 0 gives Answer.Ok 1 ∷ Call.Start 1 gives Answer.Ok 2 ∷ Call.Update 0 5 1 gives Answer.Ok 0 ∷ [];
+      before = Call.Start 0 gives Ok 1 ∷ Call.Start 1 gives Ok 2 ∷ Call.Update 0 5 1 gives Ok 0 ∷ [];
       call = Call.Update 1 5 2;
-      cheating = Answer.Ok 0;
-      right = Answer.Conflict;
+      cheating = Ok 0;
+      right = Err Refusal.Conflict;
     }
 
 -- taking the newest committed value at each read, which makes case 2 show 12
@@ -81,15 +82,15 @@ abbrev pub newest_at_each_read : Cheat
 newest_at_each_read =
     record {
       before =
-          Call.Start 0 gives Answer.Ok 1
-          ∷ Call.Update 0 7 12 gives Answer.Ok 0
-          ∷ Call.Start 1 gives Answer.Ok 2
-          ∷ Call.Read 1 7 gives Answer.Ok 0
-          ∷ Call.Commit 0 gives Answer.Ok 1
+          Call.Start 0 gives Ok 1
+          ∷ Call.Update 0 7 12 gives Ok 0
+          ∷ Call.Start 1 gives Ok 2
+          ∷ Call.Read 1 7 gives Ok 0
+          ∷ Call.Commit 0 gives Ok 1
           ∷ [];
       call = Call.Read 1 7;
-      cheating = Answer.Ok 12;
-      right = Answer.Ok 0;
+      cheating = Ok 12;
+      right = Ok 0;
     }
 
 -- reusing any version that isn't the newest: case 9 then reads 0 at place 5
@@ -98,16 +99,16 @@ any_old_version =
     record {
       before =
           first_commit
-          ++ Call.Start 5 gives Answer.Ok 2
-          ∷ Call.Start 0 gives Answer.Ok 3
-          ∷ Call.Update 0 0 2 gives Answer.Ok 0
-          ∷ Call.Commit 0 gives Answer.Ok 2
-          ∷ Call.Start 0 gives Answer.Ok 4
-          ∷ Call.Update 0 0 3 gives Answer.Ok 0
+          ++ Call.Start 5 gives Ok 2
+          ∷ Call.Start 0 gives Ok 3
+          ∷ Call.Update 0 0 2 gives Ok 0
+          ∷ Call.Commit 0 gives Ok 2
+          ∷ Call.Start 0 gives Ok 4
+          ∷ Call.Update 0 0 3 gives Ok 0
           ∷ [];
       call = Call.Read 5 0;
-      cheating = Answer.Ok 0;
-      right = Answer.Ok 1;
+      cheating = Ok 0;
+      right = Ok 1;
     }
 
 -- dropping a rolled-back writer's words only in its first cell, so a second key stays blocked
@@ -115,16 +116,16 @@ abbrev pub first_cell_only : Cheat
 first_cell_only =
     record {
       before =
-          Call.Start 0 gives Answer.Ok 1
-          ∷ Call.Update 0 1 1 gives Answer.Ok 0
-          ∷ Call.Update 0 2 1 gives Answer.Ok 0
-          ∷ Call.Rollback 0 gives Answer.Ok 0
-          ∷ Call.Start 1 gives Answer.Ok 2
-          ∷ Call.Update 1 1 9 gives Answer.Ok 0
+          Call.Start 0 gives Ok 1
+          ∷ Call.Update 0 1 1 gives Ok 0
+          ∷ Call.Update 0 2 1 gives Ok 0
+          ∷ Call.Rollback 0 gives Ok 0
+          ∷ Call.Start 1 gives Ok 2
+          ∷ Call.Update 1 1 9 gives Ok 0
           ∷ [];
       call = Call.Update 1 2 9;
-      cheating = Answer.Conflict;
-      right = Answer.Ok 0;
+      cheating = Err Refusal.Conflict;
+      right = Ok 0;
     }
 
 -- one that works for the first transaction and then feigns: it hands out the running numbers, and writes nothing more
@@ -133,14 +134,14 @@ feigning =
     record {
       before =
           first_commit
-          ++ Call.Start 0 gives Answer.Ok 2
-          ∷ Call.Update 0 0 2 gives Answer.Ok 0
-          ∷ Call.Commit 0 gives Answer.Ok 2
-          ∷ Call.Start 0 gives Answer.Ok 3
+          ++ Call.Start 0 gives Ok 2
+          ∷ Call.Update 0 0 2 gives Ok 0
+          ∷ Call.Commit 0 gives Ok 2
+          ∷ Call.Start 0 gives Ok 3
           ∷ [];
       call = Call.Read 0 0;
-      cheating = Answer.Ok 1;
-      right = Answer.Ok 2;
+      cheating = Ok 1;
+      right = Ok 2;
     }
 
 -- the list
@@ -151,11 +152,11 @@ cheats = views_alone ∷ newest_at_each_read ∷ any_old_version ∷ first_cell_
 
 -- a transaction that reads one key twice and is shown two values breaks Int
 abbrev pub two_values : List Pair
-two_values = newest_at_each_read.before ++ Call.Read 1 7 gives Answer.Ok 12 ∷ Call.Commit 1 gives Answer.Ok 2 ∷ []
+two_values = newest_at_each_read.before ++ Call.Read 1 7 gives Ok 12 ∷ Call.Commit 1 gives Ok 2 ∷ []
 
 -- one that is shown what nobody wrote breaks Ext
 abbrev pub never_written : List Pair
-never_written = Call.Start 0 gives Answer.Ok 1 ∷ Call.Read 0 7 gives Answer.Ok 5 ∷ Call.Commit 0 gives Answer.Ok 1 ∷ []
+never_written = Call.Start 0 gives Ok 1 ∷ Call.Read 0 7 gives Ok 5 ∷ Call.Commit 0 gives Ok 1 ∷ []
 
 -- and two that overlapped and wrote one key break NoConflict
 abbrev pub one_key : List Pair

@@ -1,12 +1,12 @@
 -- What happened at a board, told from the pairs of call and answer alone; and what demand 3 says of it.
 -- No cell is looked at, and no number that the store hands out: only the last board is, in `holds`.
 -- Assumes nothing.
-use Rattle.std.specs.Prelude.{◌≡◌, ◌↔◌, ◌⊎◌, Bool, cond, ◌&&◌, List, [], ◌∷◌, ◌++◌, ℕ, ◌+◌, ◌≤◌, ◌<◌, eqb, length, get_or, take}
+use Rattle.std.specs.Prelude.{◌≡◌, ◌↔◌, ◌⊎◌, Bool, cond, ◌&&◌, List, [], ◌∷◌, ◌++◌, ℕ, ◌+◌, ◌≤◌, ◌<◌, eqb, length, get_or, take, Ok, Err}
 use Rattle.std.proofs.Math.Option
 use Rattle.std.proofs.Math.Option.{Option, none, some}
 use Rattle.records.specs.declared.Call.{Call}
-use Rattle.records.specs.declared.Answer.{Answer}
-use Rattle.records.specs.Answers.{number_of}
+use Rattle.records.specs.declared.Refusal.{Refusal}
+use Rattle.records.specs.Answers.{Answer, number_of}
 use Rattle.cells.specs.declared.Cell.{Cell}
 use Rattle.cells.specs.Cells.{no_cell, of_key, committed}
 use Rattle.cells.specs.Rules.{newest}
@@ -23,7 +23,7 @@ answered_by c a = record { call = c; said = said_of a }
 
 -- what stands where a history has no pair
 abbrev pub no_pair : Pair
-no_pair = answered_by (Call.Start 0) (Answer.Ok 0)
+no_pair = answered_by (Call.Start 0) (Ok 0)
 
 -- 0 OK: done
 abbrev pub is_ok : ℕ → Bool
@@ -31,7 +31,7 @@ is_ok n = eqb n 0
 
 -- 9 CONFLICT
 abbrev pub is_conflict : ℕ → Bool
-is_conflict n = eqb n (number_of Answer.Conflict)
+is_conflict n = eqb n (number_of (Err Refusal.Conflict))
 
 -- A TRANSACTION
 
@@ -176,7 +176,7 @@ sees L p k = Option.get_or (last_write (L.at p).did k) (leave (take (L.at p).see
 
 -- each read answered shows what it sees
 abbrev pub ReadsRight : List Pair → Type 0
-ReadsRight hs = (before after : List Pair) (p k v : ℕ) → hs ≡ before ++ (answered_by (Call.Read p k) (Answer.Ok v) ∷ after)
+ReadsRight hs = (before after : List Pair) (p k v : ℕ) → hs ≡ before ++ (answered_by (Call.Read p k) (Ok v) ∷ after)
     → v ≡ sees (ledger before) p k
 
 -- two committed transactions overlapped if each started before the other committed
@@ -206,7 +206,7 @@ Contested L p k =
 abbrev pub ConflictsExact : List Pair → Type 0
 ConflictsExact hs = (before after : List Pair) (p k new : ℕ) (s : Said)
     → hs ≡ before ++ (record { call = Call.Update p k new; said = s } ∷ after) → Reaches (ledger before) p k
-    → (s.number ≡ number_of Answer.Conflict) ↔ Contested (ledger before) p k
+    → (s.number ≡ number_of (Err Refusal.Conflict)) ↔ Contested (ledger before) p k
 
 -- a committed cell of the key
 abbrev pub version_of : ℕ → Cell → Bool

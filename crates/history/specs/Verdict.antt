@@ -1,11 +1,11 @@
 -- Beyond demand 3: the answer that the history alone calls for, and when FULL is given. Together they say that a history and the
 -- number of cells decide every answer.
 -- Assumes nothing.
-use Rattle.std.specs.Prelude.{◌≡◌, ◌⊎◌, ◌↔◌, Bool, true, false, cond, not, ◌&&◌, ◌||◌, List, ◌∷◌, ◌++◌, ℕ, zero, suc, ◌+◌, ◌≤◌, ◌<◌, leb, eqb, length, take}
+use Rattle.std.specs.Prelude.{◌≡◌, ◌⊎◌, ◌↔◌, Bool, true, false, cond, not, ◌&&◌, ◌||◌, List, ◌∷◌, ◌++◌, ℕ, zero, suc, ◌+◌, ◌≤◌, ◌<◌, leb, eqb, length, take, Ok, Err}
 use Rattle.std.proofs.Math.Option.{Option, none, some}
 use Rattle.records.specs.declared.Call.{Call}
-use Rattle.records.specs.declared.Answer.{Answer}
-use Rattle.records.specs.Answers.{number_of, place_of}
+use Rattle.records.specs.declared.Refusal.{Refusal}
+use Rattle.records.specs.Answers.{Answer, number_of, place_of}
 use Rattle.steps.specs.declared.State.{State}
 use Rattle.steps.specs.Record.{all_places, most_cells, is_prepared}
 use Rattle.steps.specs.Check.{check_of, facts_of}
@@ -54,15 +54,15 @@ or_else (some v) f a = f v
 
 -- the answer once no check has refused: a start's and a commit's running number, a read's value, and 0
 abbrev pub due : Ledger → Call → Answer
-due L (Call.Start p) = Answer.Ok (L.starts + 1)
+due L (Call.Start p) = Ok (L.starts + 1)
 due L (Call.Read p k) =
-    or_else (last_write (L.at p).did k) (λ v. Answer.Ok v)
-    (refuse_if (hidden L k) Answer.Prepared (Answer.Ok (leave (take (L.at p).seen L.past) k)))
+    or_else (last_write (L.at p).did k) (λ v. Ok v)
+    (refuse_if (hidden L k) (Err Refusal.Prepared) (Ok (leave (take (L.at p).seen L.past) k)))
 due L (Call.Update p k new) =
-    or_else (last_write (L.at p).did k) (λ _. Answer.Ok 0) (refuse_if (contested L p k) Answer.Conflict (Answer.Ok 0))
-due L (Call.Prepare p) = Answer.Ok 0
-due L (Call.Commit p) = Answer.Ok (length L.past + 1)
-due L (Call.Rollback p) = Answer.Ok 0
+    or_else (last_write (L.at p).did k) (λ _. Ok 0) (refuse_if (contested L p k) (Err Refusal.Conflict) (Ok 0))
+due L (Call.Prepare p) = Ok 0
+due L (Call.Commit p) = Ok (length L.past + 1)
+due L (Call.Rollback p) = Ok 0
 
 -- the answer that a history calls for
 unfoldable pub verdict : Ledger → Call → Answer
@@ -110,7 +110,7 @@ Answers h a = h.said ≡ said_of a
 
 -- the answer is the verdict; or it is FULL, at an update that needs a cell
 abbrev pub Right : Ledger → Pair → Type 0
-Right L h = Answers h (verdict L h.call) ⊎ (Answers h Answer.Full × NeedsCell L h.call)
+Right L h = Answers h (verdict L h.call) ⊎ (Answers h (Err Refusal.Full) × NeedsCell L h.call)
 
 -- so is every answer from a fresh board
 abbrev pub AllRight : Type 0
@@ -121,7 +121,7 @@ AllRight = (n : ℕ) → 0 < n → n ≤ most_cells → (calls : List Call) (bef
 abbrev pub FullRight : Type 0
 FullRight = (n : ℕ) → 0 < n → n ≤ most_cells → (calls : List Call) (before after : List Pair) (h : Pair)
     → (from_fresh n calls).pairs ≡ before ++ (h ∷ after) → NeedsCell (ledger before) h.call
-    → (h.said.number ≡ number_of Answer.Full) ↔ Packed n (ledger before)
+    → (h.said.number ≡ number_of (Err Refusal.Full)) ↔ Packed n (ledger before)
 
 -- so a ledger and the number of cells decide every answer
 abbrev pub Decided : Type 0

@@ -3,6 +3,7 @@
 --     no_kind, no_kind_nothing    what is left out: the kinds other than 1 to 6, which get 12 and change nothing
 --     calls_right, calls_full     every answer is right, and FULL is exact
 -- Assumes nothing.
+use Rattle.std.specs.Prelude.{Option, Some, None}
 use mathlib.Core.Path.{◌≡◌, refl, sym, ap, ◌∙◌, subst}
 use mathlib.Core.Logic.{◌⊎◌, ◌↔◌, inl, inr}
 use mathlib.Core.List.{List, [], ◌∷◌, map}
@@ -11,7 +12,6 @@ use native.Mathlib.Nat.{le_of_suc-le-suc, not-suc-le-zero}
 use native.Mathlib.Omega.{arith}
 use lib.ListN.{length, get_or}
 use Rattle.records.specs.declared.Call.{Call}
-use Rattle.records.specs.declared.CallRead.{CallRead}
 use Rattle.steps.specs.Record.{all_places, fresh_board}
 use Rattle.steps.specs.Store.{Store, lent, fresh_store}
 use Rattle.steps.specs.Step.{step}
@@ -44,19 +44,19 @@ AsRun asked = (st : Store) → length st.board.places ≡ all_places
     Same (pairs_got r.got) r.words r.cells (run st (calls_asked asked))
 
 -- one that gave x, and then others
-abbrev Behind : CallRead → List Asked → Asked → Crossed → Run → Type 0
+abbrev Behind : Option Call → List Asked → Asked → Crossed → Run → Type 0
 Behind read more a x p =
     let r : Called = calls_on x.words x.cells more in
     Same (pair_then read (record { asked = a; said = x.said }) (pairs_got r.got)) r.words r.cells p
 
-one : (a : Asked) (more : List Asked) → AsRun more → (read : CallRead) (st : Store) → length st.board.places ≡ all_places
+one : (a : Asked) (more : List Asked) → AsRun more → (read : Option Call) (st : Store) → length st.board.places ≡ all_places
     → Behind read more a (on_named read (words_of_record st.board) st.words) (run st (named_then read (calls_asked more)))
 unfolding run
-one a more later (CallRead.Good call) st full =
+one a more later (Some call) st full =
     let s = later (step st call).store ((keeps_lengths st call).1 ∙ full) in
-    subst (λ (x : Crossed). Behind (CallRead.Good call) more a x (run st (call ∷ calls_asked more))) (sym (step_on st full call))
+    subst (λ (x : Crossed). Behind (Some call) more a x (run st (call ∷ calls_asked more))) (sym (step_on st full call))
     (record { pairs = ap (λ (hs : List Pair). pair_of st call ∷ hs) s.pairs; words = s.words; cells = s.cells })
-one a more later CallRead.Record st full = later st full
+one a more later None st full = later st full
 
 pub same : (asked : List Asked) → AsRun asked
 unfolding calls_on calls_asked pairs_got run lane_call
@@ -72,7 +72,7 @@ each_asked (a ∷ more) ws cs = ap (λ (l : List Asked). a ∷ l) (each_asked mo
 
 pub no_kind_nothing : NoKindNothing
 unfolding lane_call
-no_kind_nothing ws cs a e = ap (λ (read : CallRead). on_named read ws cs) e
+no_kind_nothing ws cs a e = ap (λ (read : Option Call). on_named read ws cs) e
 
 got_record : (asked : List Asked) (ws cs : List ℕ) (i : ℕ) → i < length asked → GotRecord (get_or (calls_on ws cs asked).got i nothing_got)
 unfolding calls_on
@@ -111,7 +111,7 @@ calls_tell n h l asked =
 
 -- WHICH KINDS THESE ARE
 
-is_named : {A : Type 0} (call : Call) → CallRead.Good call ≡ CallRead.Record → A
+is_named : {A : Type 0} (call : Call) → Some call ≡ None → A
 is_named call e = absurd (let z : ◌≡◌ {A = ℕ} 0 1 = cc in omega arith)
 
 is_kind : {A : Type 0} (kind : ℕ) → 0 < kind → kind ≤ 6 → (kind ≡ 0) ⊎ (6 < kind) → A
@@ -120,7 +120,7 @@ is_kind kind h l e = absurd (cases e (λ z. omega arith) (λ z. omega arith))
 pub no_kind : NoKind
 no_kind a = go a.kind
   where
-    go : (kind : ℕ) → (call_named kind a.place a.key a.value ≡ CallRead.Record) ↔ ((kind ≡ 0) ⊎ (6 < kind))
+    go : (kind : ℕ) → (call_named kind a.place a.key a.value ≡ None) ↔ ((kind ≡ 0) ⊎ (6 < kind))
     go zero = (λ _. inl refl, λ _. refl)
     go (suc zero) = (is_named (Call.Start a.place), is_kind 1 (omega arith) (omega arith))
     go (suc (suc zero)) = (is_named (Call.Read a.place a.key), is_kind 2 (omega arith) (omega arith))

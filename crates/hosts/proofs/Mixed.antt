@@ -2,13 +2,13 @@
 --     serve_is_calls     one lane_serve
 --     mixed_is_calls     any mixture of both
 -- Assumes nothing.
+use Rattle.std.specs.Prelude.{Option, Some, None}
 use mathlib.Core.Path.{◌≡◌, refl, sym, ap, ◌∙◌, subst}
 use mathlib.Core.Bool.{Bool, true, false}
 use mathlib.Core.List.{List, [], ◌∷◌, ◌++◌, map}
 use Prim.Native.Nat.{ℕ}
 use lib.ListN.{length}
 use Rattle.records.specs.declared.Call.{Call}
-use Rattle.records.specs.declared.CallRead.{CallRead}
 use Rattle.records.specs.declared.Reply.{Reply}
 use Rattle.steps.specs.Record.{all_places}
 use Rattle.steps.specs.Store.{Store}
@@ -39,7 +39,7 @@ kept r = record { words = r.words; cells = r.cells }
 -- ON A RECORD
 
 -- the call asked for is the call
-asked_back : (c : Call) → call_asked (ask_for c) ≡ CallRead.Good c
+asked_back : (c : Call) → call_asked (ask_for c) ≡ Some c
 asked_back (Call.Start place) = refl
 asked_back (Call.Read place key) = refl
 asked_back (Call.Update place key value) = refl
@@ -57,7 +57,7 @@ call_step : (st : Store) → length st.board.places ≡ all_places → (c : Call
     → call_on (words_of_record st.board) st.words (ask_for c) ≡ outcome_words (step st c)
 unfolding lane_call
 call_step st full c =
-    ap (λ (r : CallRead). on_named r (words_of_record st.board) st.words) (asked_back c) ∙ step_on st full c
+    ap (λ (r : Option Call). on_named r (words_of_record st.board) st.words) (asked_back c) ∙ step_on st full c
 
 -- what the calls gave is what a run of them replies
 got_replies : (calls : List Call) (st : Store) → length st.board.places ≡ all_places
@@ -92,9 +92,9 @@ module _ (st : Store) (full : length st.board.places ≡ all_places) (l : Lent) 
 -- ON WORDS THAT ARE NO RECORD
 module _ (ws cs : List ℕ) (w : well_formed ws ≡ false) where
   -- a call leaves them
-  left : (read : CallRead) → ((on_named read ws cs).words ≡ ws) × ((on_named read ws cs).cells ≡ cs)
-  left (CallRead.Good call) = rw w (refl, refl)
-  left CallRead.Record = (refl, refl)
+  left : (read : Option Call) → ((on_named read ws cs).words ≡ ws) × ((on_named read ws cs).cells ≡ cs)
+  left (Some call) = rw w (refl, refl)
+  left None = (refl, refl)
 
   all_left : (asked : List Asked) → kept (calls_on ws cs asked) ≡ record { words = ws; cells = cs }
   unfolding calls_on lane_call

@@ -2,16 +2,16 @@
 --     refusal_leaves_all     a refusal leaves every word as it was, but for CONFLICT's one state word
 --     from_the_list          the number is one of the list
 -- Assumes nothing.
+use Rattle.std.specs.Prelude.{Option, Some, None, Err}
 use mathlib.Core.Path.{◌≡◌, refl, ap, ◌∙◌}
 use mathlib.Core.Bool.{true}
 use mathlib.Core.List.{List, [], ◌∷◌}
 use Prim.Native.Nat.{ℕ, zero, suc, ◌≤◌}
 use native.Mathlib.Omega.{arith}
 use lib.ListN.{get_or, set}
-use Rattle.records.specs.declared.Answer.{Answer}
+use Rattle.records.specs.declared.Refusal.{Refusal}
 use Rattle.records.specs.declared.Call.{Call}
-use Rattle.records.specs.declared.CallRead.{CallRead}
-use Rattle.records.specs.Answers.{number_of, value_of, place_of}
+use Rattle.records.specs.Answers.{Answer, number_of, value_of, place_of}
 use Rattle.steps.specs.declared.State.{State}
 use Rattle.steps.specs.declared.Board.{Board}
 use Rattle.steps.specs.Record.{place_at, with_place, in_state}
@@ -27,7 +27,7 @@ use Rattle.hosts.specs.Refusals.{LeavesAll, RefusalLeavesAll, FromTheList}
 
 module _ (ws cs : List ℕ) where
   -- a refusal that hands all back
-  plain : (a : Answer) (place : ℕ) → (number_of a ≡ number_of Answer.Conflict → ⊥) → value_of a ≡ 0 → LeavesAll ws cs place (refused_with a ws cs)
+  plain : (a : Answer) (place : ℕ) → (number_of a ≡ number_of (Err Refusal.Conflict) → ⊥) → value_of a ≡ 0 → LeavesAll ws cs place (refused_with a ws cs)
   plain a place n v =
       record { value = v; cells = refl; words = λ _. refl; was = λ e. absurd (n e); spoiled = λ e. absurd (n e) }
 
@@ -68,17 +68,17 @@ module _ (ws cs : List ℕ) where
   on_call call =
       by_test (Leaves (place_of call)) (well_formed ws)
       (λ w. stepped w call)
-      (λ _ _. plain Answer.Board (place_of call) (λ e. omega arith) refl)
+      (λ _ _. plain (Err Refusal.Board) (place_of call) (λ e. omega arith) refl)
 
-  on_none : (place : ℕ) → Leaves place (refused_with Answer.Record ws cs)
-  on_none place _ = plain Answer.Record place (λ e. omega arith) refl
+  on_none : (place : ℕ) → Leaves place (refused_with (Err Refusal.Record) ws cs)
+  on_none place _ = plain (Err Refusal.Record) place (λ e. omega arith) refl
 
-  listed : (read : CallRead) → (on_named read ws cs).said.number ≤ number_of Answer.Record
-  listed (CallRead.Good call) =
-      by_test (λ (x : Crossed). x.said.number ≤ number_of Answer.Record) (well_formed ws)
+  listed : (read : Option Call) → (on_named read ws cs).said.number ≤ number_of (Err Refusal.Record)
+  listed (Some call) =
+      by_test (λ (x : Crossed). x.said.number ≤ number_of (Err Refusal.Record)) (well_formed ws)
       (λ _. omega (arith, never_above (store_of ws cs) call))
       (λ _. omega arith)
-  listed CallRead.Record = omega arith
+  listed None = omega arith
 
 -- by the kinds
 pub refusal_leaves_all : RefusalLeavesAll

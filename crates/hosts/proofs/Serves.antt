@@ -4,6 +4,7 @@
 --     three           a history in three parts: before one lane_serve, its own, and after it
 --     serves_tell     each wrote the answers of its part, and the last words are the record's and the cells'
 -- Assumes nothing.
+use Rattle.std.specs.Prelude.{Some}
 use mathlib.Core.Path.{◌≡◌, refl, sym, ap, ◌∙◌, subst}
 use mathlib.Core.Bool.{Bool, true}
 use mathlib.Core.List.{List, [], ◌∷◌, ◌++◌, append_assoc}
@@ -14,7 +15,6 @@ use lib.ListN.{length, get_or, take, drop, length-append, get_or-append}
 use lib.Seq.{take_at, drop_at, get_or-append-add}
 use borrow.Author.Tests.{ltb-true}
 use Rattle.records.specs.declared.Call.{Call}
-use Rattle.records.specs.declared.CallRead.{CallRead}
 use Rattle.records.specs.Format.{call_bytes, call_fits, call_at, put_at}
 use Rattle.steps.specs.Record.{all_places, most_cells}
 use Rattle.steps.specs.Store.{Store, fresh_store}
@@ -148,11 +148,11 @@ module _ (n : ℕ) (h : 0 < n) (m : n ≤ most_cells) (lent before after : List 
       (drop_at first.pairs (own.pairs ++ rest) (length (calls_lent before)) (run_length (fresh_store n) (calls_lent before)))
       ∙ take_at own.pairs rest (length (calls_tried l)) (run_length first.store (calls_tried l)))
 
-  read : (i : ℕ) → i < length own.pairs → call_at l.calls (call_bytes * i) ≡ CallRead.Good (get_or own.pairs i no_pair).call
+  read : (i : ℕ) → i < length own.pairs → call_at l.calls (call_bytes * i) ≡ Some (get_or own.pairs i no_pair).call
   read i g =
       let many : length own.pairs ≡ length (calls_tried l) = run_length first.store (calls_tried l) in
       calls_stand (tried l.calls (length l.answers)) l.calls i (omega arith)
-      ∙ ap CallRead.Good (sym (run_call first.store (calls_tried l) i no_pair))
+      ∙ ap Some (sym (run_call first.store (calls_tried l) i no_pair))
 
   has : (i : ℕ) → i < length own.pairs → Recorded (get_or own.pairs i no_pair)
   has i g =

@@ -1,9 +1,8 @@
 -- `lane_call` again and again: what a host asks and gets back, as a history.
 -- Assumes nothing.
-use Rattle.std.specs.Prelude.{◌≡◌, ◌⊎◌, ◌↔◌, List, [], ◌∷◌, ◌++◌, map, ℕ, ◌*◌, ◌≤◌, ◌<◌, length, get_or}
+use Rattle.std.specs.Prelude.{◌≡◌, ◌⊎◌, ◌↔◌, List, [], ◌∷◌, ◌++◌, map, ℕ, ◌*◌, ◌≤◌, ◌<◌, length, get_or, Option, Some, None, Ok, Err}
 use Rattle.records.specs.declared.Call.{Call}
-use Rattle.records.specs.declared.Answer.{Answer}
-use Rattle.records.specs.declared.CallRead.{CallRead}
+use Rattle.records.specs.declared.Refusal.{Refusal}
 use Rattle.records.specs.Answers.{number_of}
 use Rattle.steps.specs.Record.{most_cells, fresh_words}
 use Rattle.steps.specs.Store.{Said, said_of}
@@ -29,7 +28,7 @@ pub record Got : Type 0 where
 
 -- what stands where nothing was asked
 abbrev pub nothing_got : Got
-nothing_got = record { asked = record { kind = 0; place = 0; key = 0; value = 0 }; said = said_of (Answer.Ok 0) }
+nothing_got = record { asked = record { kind = 0; place = 0; key = 0; value = 0 }; said = said_of (Ok 0) }
 
 -- lane_call with these numbers, on the words of a record and of cells
 abbrev pub call_on : List ℕ → List ℕ → Asked → Crossed
@@ -60,13 +59,13 @@ calls_from_zeros n asked = calls_on (fresh_words record_words) (fresh_words (4 *
 -- AS A HISTORY
 
 -- the call that is asked for, if the kind names one
-abbrev pub call_asked : Asked → CallRead
+abbrev pub call_asked : Asked → Option Call
 call_asked a = call_named a.kind a.place a.key a.value
 
 -- a kind that names no call is left out
-abbrev pub named_then : CallRead → List Call → List Call
-named_then (CallRead.Good call) calls = call ∷ calls
-named_then CallRead.Record calls = calls
+abbrev pub named_then : Option Call → List Call → List Call
+named_then (Some call) calls = call ∷ calls
+named_then None calls = calls
 
 -- the calls asked for
 unfoldable pub calls_asked : List Asked → List Call
@@ -74,9 +73,9 @@ calls_asked [] = []
 calls_asked (a ∷ more) = named_then (call_asked a) (calls_asked more)
 
 -- the call with what came back, as a pair; a kind that names no call is left out
-abbrev pub pair_then : CallRead → Got → List Pair → List Pair
-pair_then (CallRead.Good call) g hs = record { call = call; said = g.said } ∷ hs
-pair_then CallRead.Record g hs = hs
+abbrev pub pair_then : Option Call → Got → List Pair → List Pair
+pair_then (Some call) g hs = record { call = call; said = g.said } ∷ hs
+pair_then None g hs = hs
 
 -- the pairs
 unfoldable pub pairs_got : List Got → List Pair
@@ -91,7 +90,7 @@ run_of r = record { pairs = pairs_got r.got; store = store_of r.words r.cells }
 
 -- where the kind names no call it got 12 with value 0
 abbrev pub GotRecord : Got → Type 0
-GotRecord g = call_asked g.asked ≡ CallRead.Record → g.said ≡ said_of Answer.Record
+GotRecord g = call_asked g.asked ≡ None → g.said ≡ said_of (Err Refusal.Record)
 
 -- any sequence of lane_calls from zero words tells, kinds that name no call left out, a history on a fresh board of n cells: each call got
 -- what it gets there, and the last words are the record's and the cells'; so it has all that demand 3 says. Those left out got 12
@@ -108,12 +107,12 @@ CallsPromise = (n : ℕ) → 0 < n → n ≤ most_cells → (asked : List Asked)
 
 -- those left out are the kinds other than 1 to 6
 abbrev pub NoKind : Type 0
-NoKind = (a : Asked) → (call_asked a ≡ CallRead.Record) ↔ ((a.kind ≡ 0) ⊎ (6 < a.kind))
+NoKind = (a : Asked) → (call_asked a ≡ None) ↔ ((a.kind ≡ 0) ⊎ (6 < a.kind))
 
 -- on any words they get 12 with value 0, and no word changes
 abbrev pub NoKindNothing : Type 0
-NoKindNothing = (ws cs : List ℕ) (a : Asked) → call_asked a ≡ CallRead.Record
-    → call_on ws cs a ≡ record { said = said_of Answer.Record; words = ws; cells = cs }
+NoKindNothing = (ws cs : List ℕ) (a : Asked) → call_asked a ≡ None
+    → call_on ws cs a ≡ record { said = said_of (Err Refusal.Record); words = ws; cells = cs }
 
 -- every pair's answer is the verdict of the pairs before it; or it is FULL, at an update that needs a cell
 abbrev pub CallsRight : Type 0
@@ -124,4 +123,4 @@ CallsRight = (n : ℕ) → 0 < n → n ≤ most_cells → (asked : List Asked) (
 abbrev pub CallsFull : Type 0
 CallsFull = (n : ℕ) → 0 < n → n ≤ most_cells → (asked : List Asked) (before after : List Pair) (h : Pair)
     → pairs_got (calls_from_zeros n asked).got ≡ before ++ (h ∷ after) → NeedsCell (ledger before) h.call
-    → (h.said.number ≡ number_of Answer.Full) ↔ Packed n (ledger before)
+    → (h.said.number ≡ number_of (Err Refusal.Full)) ↔ Packed n (ledger before)

@@ -1,8 +1,7 @@
 -- `lane_serve` again and again, with any bytes, any room and any cut between: what the host reads in the answers, as a history.
 -- Assumes nothing.
-use Rattle.std.specs.Prelude.{◌≡◌, true, List, [], ◌∷◌, ◌++◌, ℕ, ◌*◌, ◌≤◌, ◌<◌, length, take, drop}
+use Rattle.std.specs.Prelude.{◌≡◌, true, List, [], ◌∷◌, ◌++◌, ℕ, ◌*◌, ◌≤◌, ◌<◌, length, take, drop, None}
 use Rattle.records.specs.declared.Call.{Call}
-use Rattle.records.specs.declared.CallRead.{CallRead}
 use Rattle.records.specs.Format.{call_bytes, call_at}
 use Rattle.steps.specs.Record.{most_cells, fresh_words}
 use Rattle.steps.specs.Run.{Pair, Run}
@@ -61,7 +60,7 @@ part_of hs before l = take (length (calls_tried l)) (drop (length (calls_lent be
 pub record ServedTells (hs : List Pair) (before : List Lent) (l : Lent) (x : Handed) : Type 0 where
   pub tells : Tells (part_of hs before l) l.calls (take x.written x.answers) (met_no_call l.calls (length l.answers))
   pub last : met_no_call l.calls (length l.answers) ≡ true
-      → call_at l.calls (call_bytes * length (calls_tried l)) ≡ CallRead.Record
+      → call_at l.calls (call_bytes * length (calls_tried l)) ≡ None
   pub kept : drop x.written x.answers ≡ drop x.written l.answers
   pub taken : x.taken ≡ call_bytes * length (calls_tried l)
   pub board : x.why ≡ why_board → ⊥

@@ -15,7 +15,7 @@ use Rattle.records.specs.declared.Refusal.{Refusal}
 use Rattle.records.specs.declared.Call.{Call}
 use Rattle.records.specs.declared.Reply.{Reply}
 use Rattle.records.specs.Answers.{Answer, number_of, value_of, place_of}
-use Rattle.records.specs.Format.{kind_of, key_of, new_value_of, calls_of, call_of, call_record, call_from, call_in}
+use Rattle.records.specs.Format.{call_bytes, answer_bytes, kind_of, key_of, new_value_of, calls_of, call_of, call_record, call_from, call_in}
 use Rattle.records.specs.Format.{answers_of, answer_of, answer_record, reply_from, answer_in}
 use Rattle.records.specs.Format.{bytes_of, number_in, same_bytes}
 use Rattle.records.proofs.Bytes.{gets, part_gets, same_number, same_append, gets_all, gets_length, bytes_below}
@@ -129,3 +129,12 @@ module _ (s : List ℕ) (byte : (i : ℕ) → get_or s i 0 < 256) where
       kept ((eqb (get_or s 0 0) 0x41 && eqb (get_or s 1 0) 0x4E) && n) (record { place = place; answer = a })
       ∙ (λ i. cond (passes i) (Some (record { place = p i; answer = same i })) None)
       ∙ sym (ap answer_in (part_gets 8 s 0 h))
+
+-- a call's record has ten bytes, an answer's eight
+pub call_length : (c : Call) → length (call_record c) ≡ call_bytes
+unfolding call_record
+call_length c = refl
+
+pub answer_length : (r : Reply) → length (answer_record r) ≡ answer_bytes
+unfolding answer_record
+answer_length r = refl

@@ -27,7 +27,7 @@ use Rattle.records.specs.Format.{bytes_of, number_in, same_bytes, goes_in, put_a
 use Rattle.records.specs.Promises.{Stands, Promises}
 use Rattle.records.proofs.Bytes.{both, and_left, and_right, same_equal, same_self, bytes_back, bytes_below, bytes_all, bytes_length}
 use Rattle.records.proofs.Bytes.{same_test, part_rest, put_part, put_there, put_before, put_behind, put_length, put_same}
-use Rattle.records.proofs.Fields.{Small, call_small, answer_small}
+use Rattle.records.proofs.Fields.{Small, call_small, answer_small, call_length, answer_length}
 
 -- THE NUMBERS OF A RECORD
 
@@ -66,15 +66,6 @@ answer_named (Err Refusal.Record) = refl
 -- the pair of number and value determines the case of an answer
 pub answer_case : (a b : Answer) → number_of a ≡ number_of b → value_of a ≡ value_of b → a ≡ b
 answer_case a b p q = sym (answer_named a) ∙ (λ i. answer_of (p i) (q i)) ∙ answer_named b
-
--- a call's record has ten bytes, an answer's eight
-pub call_length : (c : Call) → length (call_record c) ≡ call_bytes
-unfolding call_record
-call_length c = refl
-
-pub answer_length : (r : Reply) → length (answer_record r) ≡ answer_bytes
-unfolding answer_record
-answer_length r = refl
 
 -- from the record of a call that has one, the call; and from ten bytes only calls that have one
 call_back : (c : Call) → call_fits c ≡ true → call_from (call_record c) ≡ c
