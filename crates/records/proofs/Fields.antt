@@ -1,24 +1,23 @@
 -- What the code looks at in a record is what the format says of its bytes:
 --     call_found, answer_found    what reading finds, from the mark, the kind or number, the place byte and the numbers behind them
---     as_written                  what writing gives, from the code's two tests
 -- Assumes nothing.
-use Rattle.std.specs.Prelude.{Some, None, Ok, Err}
+use Rattle.std.specs.Prelude.{Some, None, Err}
 use Rattle.std.specs.Bool.{then_some}
 use mathlib.Core.Path.{◌≡◌, refl, sym, ap, ◌∙◌, subst}
 use mathlib.Core.Bool.{Bool, true, false, cond, ◌&&◌, and_assoc}
 use mathlib.Core.List.{List, [], ◌∷◌, ◌++◌}
-use Prim.Native.Nat.{ℕ, zero, suc, ◌+◌, ◌%◌, ◌^◌, ◌≤◌, ◌<◌}
+use Prim.Native.Nat.{ℕ, zero, suc, ◌%◌, ◌^◌, ◌≤◌, ◌<◌}
 use native.Mathlib.Omega.{arith}
 use borrow.Author.Tests.{eq-eqb}
-use lib.Dec.{eqb, leb}
+use lib.Dec.{eqb}
 use lib.ListN.{length, get_or, take}
 use Rattle.records.specs.declared.Refusal.{Refusal}
 use Rattle.records.specs.declared.Call.{Call}
 use Rattle.records.specs.declared.Reply.{Reply}
 use Rattle.records.specs.Answers.{Answer, number_of, value_of, place_of}
-use Rattle.records.specs.Format.{kind_of, key_of, new_value_of, calls_of, call_of, call_record, call_from, call_in}
+use Rattle.records.specs.Format.{call_bytes, answer_bytes, kind_of, key_of, new_value_of, calls_of, call_of, call_record, call_from, call_in}
 use Rattle.records.specs.Format.{answers_of, answer_of, answer_record, reply_from, answer_in}
-use Rattle.records.specs.Format.{bytes_of, number_in, same_bytes, put_at, wrote, written}
+use Rattle.records.specs.Format.{bytes_of, number_in, same_bytes}
 use Rattle.records.proofs.Bytes.{gets, part_gets, same_number, same_append, gets_all, gets_length, bytes_below}
 
 -- what holds of each element of a list, and of the default, holds of the one at an index
@@ -102,7 +101,7 @@ module _ (s : List ℕ) (byte : (i : ℕ) → get_or s i 0 < 256) where
       let small : Small (get_or s 3 0) C = call_small (get_or s 2 0) (get_or s 3 0) _ _ (field_below 2 4) (field_below 4 6) in
       let tested = call_test C small in
       let passes : ((eqb (get_or s 0 0) 0x43 && eqb (get_or s 1 0) 0x4C) && n) ≡ same_bytes (gets 10 s 0) (call_record C) = cc in
-      kept _ c ∙ (λ i. cond (passes i) (Some (same i)) None) ∙ sym (ap call_in (part_gets 10 s 0 h))
+      kept ((eqb (get_or s 0 0) 0x43 && eqb (get_or s 1 0) 0x4C) && n) c ∙ (λ i. cond (passes i) (Some (same i)) None) ∙ sym (ap call_in (part_gets 10 s 0 h))
 
   -- eight bytes are the record of the answer that they name exactly if the code's tests pass
   answer_test : (a : Answer) → value_of a < 256 ^ 4 →
@@ -127,14 +126,15 @@ module _ (s : List ℕ) (byte : (i : ℕ) → get_or s i 0 < 256) where
       let same : a ≡ A = cc in
       let tested = answer_test A (answer_small (get_or s 2 0) _ (field_below 4 4)) in
       let passes : ((eqb (get_or s 0 0) 0x41 && eqb (get_or s 1 0) 0x4E) && n) ≡ same_bytes (gets 8 s 0) (answer_record R) = cc in
-      kept _ _
+      kept ((eqb (get_or s 0 0) 0x41 && eqb (get_or s 1 0) 0x4E) && n) (record { place = place; answer = a })
       ∙ (λ i. cond (passes i) (Some (record { place = p i; answer = same i })) None)
       ∙ sym (ap answer_in (part_gets 8 s 0 h))
 
--- what writing a record of n bytes gives, from what the code has tested
-pub as_written : (bs : List ℕ) (at : ℕ) (rec : List ℕ) {has fits room t : Bool} {n : ℕ} →
-    length rec ≡ n → fits ≡ has → room ≡ leb (at + n) (length bs) → (fits && room) ≡ t →
-    cond t (wrote (Ok 0) (put_at bs at rec)) (wrote (Err Refusal.Record) bs) ≡ written has bs at rec
-as_written bs at rec {has} {fits} {room} {t} {n} size e f told =
-    let g : t ≡ (has && leb (at + length rec) (length bs)) = cc in
-    ap (λ (s : Bool). cond s (wrote (Ok 0) (put_at bs at rec)) (wrote (Err Refusal.Record) bs)) g
+-- a call's record has ten bytes, an answer's eight
+pub call_length : (c : Call) → length (call_record c) ≡ call_bytes
+unfolding call_record
+call_length c = refl
+
+pub answer_length : (r : Reply) → length (answer_record r) ≡ answer_bytes
+unfolding answer_record
+answer_length r = refl

@@ -11,11 +11,11 @@ use mathlib.Core.Path.{◌≡◌, refl, sym, ap, ◌∙◌, subst}
 use mathlib.Core.Bool.{Bool, true, false, cond, ◌&&◌, and-false}
 use mathlib.Core.List.{List, [], ◌∷◌, ◌++◌}
 use mathlib.Core.Logic.{◌⊎◌, inl, inr, ⊎_elim, ◌↔◌}
-use Prim.Native.Nat.{ℕ, ◌+◌, ◌%◌, ◌^◌, ◌≤◌, ◌<◌}
+use Prim.Native.Nat.{ℕ, ◌+◌, ◌-◌, ◌%◌, ◌^◌, ◌≤◌, ◌<◌}
 use native.Mathlib.Omega.{arith}
 use borrow.Author.Tests.{ltb-true, lt-ltb, leb-true, le-leb, lt-leb}
 use lib.Dec.{leb}
-use lib.ListN.{length, get_or, take, drop, length-take, length-drop}
+use lib.ListN.{length, get_or, take, drop, length-take, length-drop, take-append-drop}
 use lib.Seq.{take-append-le, drop-append-le}
 use Rattle.records.specs.declared.Refusal.{Refusal}
 use Rattle.records.specs.declared.Call.{Call}
@@ -24,11 +24,10 @@ use Rattle.records.specs.Answers.{Answer, number_of, value_of, place_of, read_nu
 use Rattle.records.specs.Format.{call_bytes, kind_of, key_of, new_value_of, call_fits, call_of, call_record, call_from, call_in, call_at}
 use Rattle.records.specs.Format.{answer_bytes, reply_fits, answer_of, answer_record, reply_from, answer_in, answer_at}
 use Rattle.records.specs.Format.{bytes_of, number_in, same_bytes, goes_in, put_at, Written, wrote, written, written_call, written_answer}
-use Rattle.records.specs.Kinds.{call_long, answer_long}
 use Rattle.records.specs.Promises.{Stands, Promises}
 use Rattle.records.proofs.Bytes.{both, and_left, and_right, same_equal, same_self, bytes_back, bytes_below, bytes_all, bytes_length}
-use Rattle.records.proofs.Bytes.{put_there, put_before, put_behind, put_length, put_same}
-use Rattle.records.proofs.Fields.{Small, call_small, answer_small}
+use Rattle.records.proofs.Bytes.{same_test, part_rest, put_part, put_there, put_before, put_behind, put_length, put_same}
+use Rattle.records.proofs.Fields.{Small, call_small, answer_small, call_length, answer_length}
 
 -- THE NUMBERS OF A RECORD
 
@@ -128,10 +127,10 @@ module _ (has : Bool) (bs : List ℕ) (at : ℕ) (rec : List ℕ) where
       either (λ w. w.number ≡ 0 → (has ≡ true) × (at + length rec ≤ length bs))
       (λ h fits e. (h, fits)) (λ e. absurd (omega arith)) (has && room) refl
 
-  ok_from : has ≡ true → at + length rec ≤ length bs → written has bs at rec ≡ wrote (Ok 0) (put_at bs at rec)
+  pub ok_from : has ≡ true → at + length rec ≤ length bs → written has bs at rec ≡ wrote (Ok 0) (put_at bs at rec)
   ok_from h fits = rw (h, le-leb (at + length rec) (length bs) fits)
 
-  refused : (has ≡ false) ⊎ (length bs < at + length rec) → written has bs at rec ≡ wrote (Err Refusal.Record) bs
+  pub refused : (has ≡ false) ⊎ (length bs < at + length rec) → written has bs at rec ≡ wrote (Err Refusal.Record) bs
   refused (inl h) = rw h
   refused (inr h) = rw (lt-leb (at + length rec) (length bs) h, and-false)
 
@@ -157,6 +156,35 @@ module _ (has : Bool) (bs : List ℕ) (at : ℕ) (rec : List ℕ) where
       let fits : at + length rec ≤ length bs =
       omega (arith, ap length e, length-take (length rec) (drop at bs), length-drop at bs) in
       ok_from h fits ∙ ap (λ (l : List ℕ). wrote (Ok 0) l) (put_same bs at rec e)
+
+-- what writing gives at the front of the part that is lent, with the part put back
+pub written_part : (has : Bool) (bs : List ℕ) (at : ℕ) (rec : List ℕ) (a : Answer) (part : List ℕ) → at ≤ length bs →
+    wrote a part ≡ written has (take (length bs - at) (drop at bs)) 0 rec →
+    wrote a (take at bs ++ (part ++ drop (length bs - at) (drop at bs))) ≡ written has bs at rec
+written_part has bs at rec a part h told =
+    let lent : List ℕ = take (length bs - at) (drop at bs) in
+    let long : length lent ≡ length bs - at = simp (part_rest, length-drop) (omega arith) in
+    let room : leb (0 + length rec) (length lent) ≡ leb (at + length rec) (length bs) =
+    same_test (leb (0 + length rec) (length lent)) (leb (at + length rec) (length bs))
+    (λ e. le-leb (at + length rec) (length bs) (omega (arith, leb-true (0 + length rec) (length lent) e)))
+    (λ e. le-leb (0 + length rec) (length lent) (omega (arith, leb-true (at + length rec) (length bs) e))) in
+    go lent refl (has && leb (at + length rec) (length bs))
+    (told ∙ ap (λ (t : Bool). cond (has && t) (wrote (Ok 0) (put_at lent 0 rec)) (wrote (Err Refusal.Record) lent)) room)
+  where
+    rest : List ℕ
+    rest = drop (length bs - at) (drop at bs)
+
+    back : (w : Written) → wrote a part ≡ w
+        → wrote a (take at bs ++ (part ++ rest)) ≡ record { number = w.number; value = w.value; bytes = take at bs ++ (w.bytes ++ rest) }
+    back w e = λ i. record { number = (e i).number; value = (e i).value; bytes = take at bs ++ ((e i).bytes ++ rest) }
+
+    go : (lent : List ℕ) → lent ≡ take (length bs - at) (drop at bs) → (t : Bool) →
+        wrote a part ≡ cond t (wrote (Ok 0) (put_at lent 0 rec)) (wrote (Err Refusal.Record) lent) →
+        wrote a (take at bs ++ (part ++ rest)) ≡ cond t (wrote (Ok 0) (put_at bs at rec)) (wrote (Err Refusal.Record) bs)
+    go lent l true e =
+        back _ e ∙ ap (wrote (Ok 0)) (put_part bs at rec (put_at lent 0 rec) (ap (λ (p : List ℕ). put_at p 0 rec) l))
+    go lent l false e =
+        back _ e ∙ ap (wrote (Err Refusal.Record)) (ap (λ (p : List ℕ). take at bs ++ (p ++ rest)) l ∙ rw (take-append-drop, take-append-drop) refl)
 
 -- what was read is one value, and not none
 same : {A : Type 0} (a b : A) → Some a ≡ Some b → a ≡ b
@@ -299,12 +327,12 @@ module _ {A : Type 0} (size : ℕ) (has : A → Bool) (rec : A → List ℕ) (fr
 -- for calls
 pub calls : Promises call_bytes call_fits call_record call_at written_call
 unfolding call_at call_in written_call
-calls = promises call_bytes call_fits call_record call_from (omega arith) call_long call_back call_sound
+calls = promises call_bytes call_fits call_record call_from (omega arith) call_length call_back call_sound
 
 -- for answers with their place
 pub answers : Promises answer_bytes reply_fits answer_record answer_at written_answer
 unfolding answer_at answer_in written_answer
-answers = promises answer_bytes reply_fits answer_record reply_from (omega arith) answer_long reply_back reply_sound
+answers = promises answer_bytes reply_fits answer_record reply_from (omega arith) answer_length reply_back reply_sound
 
 -- no call stands in fewer than ten bytes, and no answer in fewer than eight
 pub short_call : (bs : List ℕ) → length bs < call_bytes → call_in (take call_bytes bs) ≡ None

@@ -7,7 +7,7 @@ ghost use Rattle.records.specs.Answers.{number_of, name_of, value_of, place_of};
 ghost use Rattle.records.specs.Format.{call_bytes, call_fits, call_record, call_in, kind_of, key_of, new_value_of, call_of};
 ghost use Rattle.records.specs.Format.{answer_bytes, reply_fits, answer_record, answer_in, answer_of};
 ghost use Rattle.records.specs.Format.{goes_in, put_at, wrote, written};
-ghost use Rattle.records.specs.Kinds.{call_long, call_in_none, answer_long, answer_in_none};
+ghost use Rattle.records.specs.Kinds.{call_in_none, answer_in_none};
 
 use std::error::Error;
 use std::fmt;
@@ -80,7 +80,7 @@ pub const ANSWER_BYTES: usize = 8;
 
 // One kind of record: how many bytes it is, which values have one, and which bytes those are.
 pub trait Record: Copy {
-    ghost BYTES: { ℕ };
+    ghost size: { ℕ };
 
     ghost fits: { Self → Bool };
 
@@ -88,23 +88,13 @@ pub trait Record: Copy {
 
     ghost found: { List ℕ → Option Self };
 
-    const BYTES: usize;
-
-    // Whether the value has a record.
-    fn fits(self) -> bool
-        ensures { result ≡ fits self };
-
-    // Puts the value's record at the front of the bytes.
-    fn put(self, s: &mut [u8])
-        requires { BYTES ≤ length s.old }
-        ensures { s.new ≡ put_at s.old 0 (bytes self) };
-
     // The value whose record stands at the front of the bytes.
     fn find(s: &[u8]) -> Option<Self>
-        ensures { result ≡ found (take BYTES s.now) };
+        ensures { result ≡ found (take size s.now) };
 
-    // Each record has its kind's size.
-    ghost long: { (a : Self) → length (bytes a) ≡ BYTES };
+    // Puts the value's record at the front of the bytes: OK with 0, or RECORD with every byte as it was.
+    fn put(self, s: &mut [u8]) -> Answer
+        ensures { wrote result s.new ≡ written (fits self) s.old 0 (bytes self) };
 
     // No record stands in no bytes.
     ghost found_none: { found [] ≡ None };
@@ -112,7 +102,7 @@ pub trait Record: Copy {
 
 // Takes the record at an offset: OK with the value that it is of, or RECORD.
 pub fn read<R: Record>(bytes: &[u8], at: usize) -> Option<R>
-    ensures { result ≡ R.found (take R.BYTES (drop at bytes.now)) }
+    ensures { result ≡ R.found (take R.size (drop at bytes.now)) }
 {
     R::find(bytes.get(at..)?)
 }
@@ -121,17 +111,15 @@ pub fn read<R: Record>(bytes: &[u8], at: usize) -> Option<R>
 pub fn write<R: Record>(bytes: &mut [u8], at: usize, value: R) -> Answer
     ensures { wrote result bytes.new ≡ written (R.fits value) bytes.old at (R.bytes value) }
 {
-    if value.fits() & room(bytes.len(), at, R::BYTES) {
-        value.put(&mut bytes[at..]);
-        Ok(0)
-    } else {
-        Err(Refusal::Record)
+    if bytes.len() < at {
+        return Err(Refusal::Record);
     }
+    value.put(&mut bytes[at..])
 }
 
 // A call's record: 43 4C, kind, place byte, key in two bytes, value in four.
 impl Record for Call {
-    ghost BYTES = { call_bytes };
+    ghost size = { call_bytes };
 
     ghost fits = { call_fits };
 
@@ -139,23 +127,7 @@ impl Record for Call {
 
     ghost found = { call_in };
 
-    ghost long = { call_long };
-
     ghost found_none = { call_in_none };
-
-    const BYTES: usize = CALL_BYTES;
-
-    fn fits(self) -> bool {
-        goes_in(place_of(self), key_of(self), new_value_of(self))
-    }
-
-    fn put(self, s: &mut [u8]) {
-        let kind = kind_of(self);
-        let [place, ..] = place_of(self).to_le_bytes();
-        let [k0, k1, ..] = key_of(self).to_le_bytes();
-        let [v0, v1, v2, v3] = new_value_of(self).to_le_bytes();
-        s[..CALL_BYTES].copy_from_slice(&[MARK_C, MARK_L, kind, place, k0, k1, v0, v1, v2, v3]);
-    }
 
     fn find(s: &[u8]) -> Option<Call> {
         let &[c, l, kind, place, k0, k1, v0, v1, v2, v3, ..] = s else {
@@ -165,13 +137,30 @@ impl Record for Call {
         let value = u32::from_le_bytes([v0, v1, v2, v3]);
         let call = call_of(kind, u32::from(place), key, value);
         let marked = (c == MARK_C) & (l == MARK_L);
-        (marked & call_named(call, kind, key, value)).then_some(call)
+        let named = (kind == kind_of(call))
+            & ((key == key_of(call)) & (value == new_value_of(call)));
+        (marked & named).then_some(call)
+    }
+
+    fn put(self, s: &mut [u8]) -> Answer {
+        if s.len() < CALL_BYTES {
+            return Err(Refusal::Record);
+        }
+        if !goes_in(place_of(self), key_of(self), new_value_of(self)) {
+            return Err(Refusal::Record);
+        }
+        let kind = kind_of(self);
+        let [place, ..] = place_of(self).to_le_bytes();
+        let [k0, k1, ..] = key_of(self).to_le_bytes();
+        let [v0, v1, v2, v3] = new_value_of(self).to_le_bytes();
+        s[..CALL_BYTES].copy_from_slice(&[MARK_C, MARK_L, kind, place, k0, k1, v0, v1, v2, v3]);
+        Ok(0)
     }
 }
 
 // An answer's record: 41 4E, refusal number 0 to 12, place byte, value in four bytes.
 impl Record for Reply {
-    ghost BYTES = { answer_bytes };
+    ghost size = { answer_bytes };
 
     ghost fits = { reply_fits };
 
@@ -179,34 +168,35 @@ impl Record for Reply {
 
     ghost found = { answer_in };
 
-    ghost long = { answer_long };
-
     ghost found_none = { answer_in_none };
-
-    const BYTES: usize = ANSWER_BYTES;
-
-    fn fits(self) -> bool {
-        goes_in(self.place, 0, value(self.answer))
-    }
-
-    fn put(self, s: &mut [u8]) {
-        let no = number(self.answer);
-        let [place, ..] = self.place.to_le_bytes();
-        let [v0, v1, v2, v3] = value(self.answer).to_le_bytes();
-        s[..ANSWER_BYTES].copy_from_slice(&[MARK_A, MARK_N, no, place, v0, v1, v2, v3]);
-    }
 
     fn find(s: &[u8]) -> Option<Reply> {
         let &[a, n, no, place, v0, v1, v2, v3, ..] = s else {
             return None;
         };
-        let value = u32::from_le_bytes([v0, v1, v2, v3]);
-        let answer = answer_of(no, value);
-        let marked = (a == MARK_A) & (n == MARK_N);
-        (marked & answer_named(answer, no, value)).then_some(Reply {
+        let val = u32::from_le_bytes([v0, v1, v2, v3]);
+        let answer = answer_of(no, val);
+        let reply = Reply {
             place: u32::from(place),
             answer,
-        })
+        };
+        let marked = (a == MARK_A) & (n == MARK_N);
+        let named = (no == number(answer)) & (val == value(answer));
+        (marked & named).then_some(reply)
+    }
+
+    fn put(self, s: &mut [u8]) -> Answer {
+        if s.len() < ANSWER_BYTES {
+            return Err(Refusal::Record);
+        }
+        if !goes_in(self.place, 0, value(self.answer)) {
+            return Err(Refusal::Record);
+        }
+        let no = number(self.answer);
+        let [place, ..] = self.place.to_le_bytes();
+        let [v0, v1, v2, v3] = value(self.answer).to_le_bytes();
+        s[..ANSWER_BYTES].copy_from_slice(&[MARK_A, MARK_N, no, place, v0, v1, v2, v3]);
+        Ok(0)
     }
 }
 
@@ -284,16 +274,6 @@ fn new_value_of(c: Call) -> u32
     }
 }
 
-// Whether there are so many bytes from an offset on.
-fn room(len: usize, at: usize, bytes: usize) -> bool
-    ensures { result ≡ leb (at + bytes) len }
-{
-    if len < at {
-        return false;
-    }
-    bytes <= len - at
-}
-
 // Whether a place goes into a byte and a key into two; a value always goes into four.
 fn goes_in(place: u32, key: u32, value: u32) -> bool
     ensures { result ≡ (goes_in 1 place && (goes_in 2 key && goes_in 4 value)) }
@@ -334,18 +314,4 @@ fn answer_of(number: u8, value: u32) -> Answer
         11 => Err(Refusal::Full),
         _ => Err(Refusal::Record),
     }
-}
-
-// Whether a call has this kind, and this key and value in its record.
-fn call_named(call: Call, kind: u8, key: u32, value: u32) -> bool
-    ensures { result ≡ (eqb kind (kind_of call) && (eqb key (key_of call) && eqb value (new_value_of call))) }
-{
-    (kind == kind_of(call)) & ((key == key_of(call)) & (value == new_value_of(call)))
-}
-
-// Whether an answer has this number and this value.
-fn answer_named(answer: Answer, no: u8, val: u32) -> bool
-    ensures { result ≡ (eqb no (number_of answer) && eqb val (value_of answer)) }
-{
-    (no == number(answer)) & (val == value(answer))
 }

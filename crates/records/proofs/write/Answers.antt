@@ -1,12 +1,14 @@
-use Rattle.std.proofs.Common.{sym, ap, ◌∙◌, Ok}
-use Rattle.records.specs.Format.{wrote}
-use Rattle.records.proofs.Bytes.{put_part}
-use Rattle.records.proofs.Fields.{as_written}
+use Rattle.std.proofs.Common.{sym, arith, inr}
+use Rattle.records.proofs.RoundTrip.{refused, written_part}
 use Rattle.records.proofs.write.Goals as goal
 
-pub returns-then-fits-room : goal.returns-then-fits-room
-returns-then-fits-room g c =
+-- nothing goes in past the end
+pub returns-then-bytes-at : goal.returns-then-bytes-at
+returns-then-bytes-at g c =
     let a = c.args in
-    ap (wrote (Ok 0)) (put_part a.bytes.now a.at (g.R.Record.bytes a.value) c.put.new.s c.put.ensures)
-    ∙ as_written a.bytes.now a.at (g.R.Record.bytes a.value) (g.met.R.Record.long a.value ∙ sym c.BYTES.ensures)
-    c.fits.ensures c.room.ensures c.if-fits-room.true
+    sym (refused (g.R.Record.fits a.value) a.bytes.now a.at (g.R.Record.bytes a.value) (inr (omega arith)))
+
+pub returns : goal.returns
+returns g c =
+    let a = c.args in
+    written_part (g.R.Record.fits a.value) a.bytes.now a.at (g.R.Record.bytes a.value) c.put.result c.put.new.s (omega arith) c.put.ensures

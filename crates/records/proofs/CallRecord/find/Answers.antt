@@ -12,4 +12,5 @@ returns c =
     c.then_some.ensures
     ∙ call_found c.args.s.now (λ i. omega (arith, c.type_inv.s i)) c.in-len10-up.len_at_least
     (omega (arith, c.from-key.ensures, c.from_le_bytes.ensures)) (omega (arith, c.from_le_bytes-value.ensures)) c.from.ensures
-    c.call_of-call.ensures c.call_named.ensures
+    c.call_of-call.ensures
+    (cc (c.kind_of.ensures, c.key_of.ensures, c.new_value_of.ensures))

@@ -11,4 +11,4 @@ pub returns : goal.returns
 returns c =
     c.then_some.ensures
     ∙ answer_found c.args.s.now (λ i. omega (arith, c.type_inv.s i)) c.in-len8-up.len_at_least
-    (omega (arith, c.from_le_bytes-value.ensures)) c.from.ensures c.answer_of-answer.ensures c.answer_named.ensures
+    (omega (arith, c.from_le_bytes-val.ensures)) c.from.ensures c.answer_of-answer.ensures (cc (c.number.ensures, c.value.ensures))
