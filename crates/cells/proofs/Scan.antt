@@ -3,17 +3,33 @@
 --     has_..        whether one passes
 --     to_..         cells that are changed one by one, in words
 -- Assumes nothing.
-use mathlib.Core.Path.{◌≡◌, sym, ap, ◌∙◌}
-use mathlib.Core.Bool.{Bool, true, false}
+use mathlib.Core.Path.{◌≡◌, refl, sym, ap, ◌∙◌}
+use mathlib.Core.Bool.{Bool, true, false, ◌||◌}
 use mathlib.Core.List.{List, [], ◌∷◌, map}
 use Prim.Native.Nat.{ℕ, ◌+◌, ◌/◌, ◌≤◌, ◌<◌}
 use lib.ListN.{length, get_or, set, drop, drop_of_length-le}
 use Rattle.std.specs.Prelude.{Some, None}
+use Rattle.std.specs.List.{list_any}
+use Rattle.std.specs.Iterator.{YieldsFirst}
+use Rattle.std.proofs.Common.{Bor}
+use Rattle.std.proofs.lemmas.Iterator.{YieldsList}
+use Rattle.std.proofs.lemmas.Iterator.Consumers.{YieldsList-from_first}
 use Rattle.cells.specs.declared.Cell.{Cell}
+use Rattle.cells.specs.declared.Cells.{Cells}
 use Rattle.cells.specs.Cells.{no_cell, cells_of, with_cells}
 use Rattle.cells.specs.Rules.{lowest_from, has_cell}
 use Rattle.cells.proofs.Laws.{drop_next, map_to, map_to_at, map_to_next, map_to_all, map_to_none}
 use Rattle.cells.proofs.Words.{with_cells_lem, cells_with, with_with, length_cells}
+
+-- the cells that an iterator over lent words gives
+pub cells_yielded : (ws : Bor (List ℕ)) → YieldsList (YieldsFirst {S = Cells} (λ s. cells_of s.0.now)) (λ (c : Cell). c) (record { 0 = ws }) (cells_of ws.now)
+cells_yielded ws = YieldsList-from_first (λ c. c) (λ s. cells_of s.0.now) (cells_of ws.now) refl
+
+-- the test of std's lists is the rule's
+pub any_has : (p : Cell → Bool) (cs : List Cell) → list_any p cs ≡ has_cell p cs
+unfolding has_cell
+any_has p [] = refl
+any_has p (c ∷ cs) = ap (λ (t : Bool). p c || t) (any_has p cs)
 
 -- a turn of a scan
 module _ (ws : List ℕ) (i : ℕ) (h : i < length ws / 4) where

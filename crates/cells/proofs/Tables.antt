@@ -52,23 +52,15 @@ uncommitted_leaves p t c e = by_test (p c)
     by_test true = raise_none t c.word c.commit e
     by_test false = refl
 
-module _ (p : Cell → Bool) (t : List ℕ) (ws : List ℕ) (i : ℕ) where
-  tops_turn : i < length ws / 4
-      → tops_from p t (drop i (cells_of ws)) ≡ tops_from p (raised_by p t (get_or (cells_of ws) i no_cell)) (drop (i + 1) (cells_of ws))
-  unfolding tops_from
-  tops_turn h = ap (tops_from p t) (cells_next ws i h)
-
+module _ (p : Cell → Bool) (t : List ℕ) (cs : List Cell) where
   -- a turn whose cell is c, and which leaves the table r
-  pub tops_next : i < length ws / 4 → (c : Cell) → c ≡ get_or (cells_of ws) i no_cell → (r : List ℕ) → r ≡ raised_by p t c
-      → tops_from p t (drop i (cells_of ws)) ≡ tops_from p r (drop (i + 1) (cells_of ws))
-  tops_next h c e r q =
-      tops_turn h
-      ∙ ap (λ (x : Cell). tops_from p (raised_by p t x) (drop (i + 1) (cells_of ws))) (sym e)
-      ∙ ap (λ (u : List ℕ). tops_from p u (drop (i + 1) (cells_of ws))) (sym q)
-
-  pub tops_end : length ws / 4 ≤ i → tops_from p t (drop i (cells_of ws)) ≡ t
+  pub tops_next : (c : Cell) (left : List Cell) → cs ≡ c ∷ left → (r : List ℕ) → r ≡ raised_by p t c → tops_from p t cs ≡ tops_from p r left
   unfolding tops_from
-  tops_end h = ap (tops_from p t) (cells_end ws i h)
+  tops_next c left e r q = ap (tops_from p t) e ∙ ap (λ (u : List ℕ). tops_from p u left) (sym q)
+
+  pub tops_end : cs ≡ [] → tops_from p t cs ≡ t
+  unfolding tops_from
+  tops_end e = ap (tops_from p t) e
 
 -- WHAT A TABLE TELLS
 

@@ -5,13 +5,15 @@
 --     length_..                  how many words and cells there are
 --     cell_read, cell_write      what four reads and four stores at a cell's words are
 --     cell_past, write_past      the same for a number that no cell has
+--     few_words, first_cell      the first cell of words, and the words left
 -- Assumes nothing.
 use mathlib.Core.Path.{◌≡◌, refl, sym, ap, ◌∙◌}
 use mathlib.Core.List.{List, [], ◌∷◌, ◌++◌}
-use Prim.Native.Nat.{ℕ, zero, suc, ◌+◌, ◌*◌, ◌/◌, ◌%◌, ◌≤◌, ◌<◌}
+use Prim.Native.Nat.{ℕ, zero, suc, ◌+◌, ◌-◌, ◌*◌, ◌/◌, ◌%◌, ◌≤◌, ◌<◌}
 use native.Mathlib.Omega.{arith}
-use lib.ListN.{length, get_or, set, get_or-eq_default}
+use lib.ListN.{length, get_or, set, take, drop, get_or-eq_default}
 use lib.Seq.{set_out}
+use Rattle.std.proofs.lemmas.List.{take_rest}
 use Rattle.cells.specs.declared.Cell.{Cell}
 use Rattle.cells.specs.Cells.{cells_of, words_of, past_cells, with_cells, no_cell}
 
@@ -145,3 +147,30 @@ module _ (ws : List ℕ) (i : ℕ) (h : length ws / 4 ≤ i) where
 
   pub write_past : (c : Cell) → ws ≡ with_cells ws (set (cells_of ws) i c)
   write_past c = sym (ap (with_cells ws) (set_out (cells_of ws) i c past_cells_lem) ∙ with_cells_lem ws)
+
+-- the first cell of words, and the words left
+pub few_words : (ws : List ℕ) → length ws < 4 → cells_of ws ≡ []
+unfolding cells_of
+few_words [] h = refl
+few_words (a ∷ []) h = refl
+few_words (a ∷ (b ∷ [])) h = refl
+few_words (a ∷ (b ∷ (c ∷ []))) h = refl
+few_words (a ∷ (b ∷ (c ∷ (d ∷ ws)))) h = absurd (omega arith)
+
+first_dropped : (ws : List ℕ) → 4 ≤ length ws → cells_of ws ≡ cell_at ws 0 ∷ cells_of (drop 4 ws)
+unfolding cells_of
+first_dropped [] h = absurd (omega arith)
+first_dropped (a ∷ []) h = absurd (omega arith)
+first_dropped (a ∷ (b ∷ [])) h = absurd (omega arith)
+first_dropped (a ∷ (b ∷ (c ∷ []))) h = absurd (omega arith)
+first_dropped (a ∷ (b ∷ (c ∷ (d ∷ ws)))) h = refl
+
+module _ (ws : List ℕ) (h : 4 ≤ length ws) where
+  abbrev pub words_left : List ℕ
+  words_left = take (length ws - 4) (drop 4 ws)
+
+  pub first_cell : cells_of ws ≡ cell_at ws 0 ∷ cells_of words_left
+  first_cell = rw (take_rest ws 4) (first_dropped ws h)
+
+  pub one_less : length (cells_of words_left) < length (cells_of ws)
+  one_less = rw first_cell (omega arith)
