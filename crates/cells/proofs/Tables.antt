@@ -3,34 +3,23 @@
 use mathlib.Core.Path.{◌≡◌, refl, sym, ap, ◌∙◌}
 use mathlib.Core.Bool.{Bool, true, false, cond, not, ◌&&◌, ◌||◌, and-false, and_comm, or-false, or_assoc}
 use mathlib.Core.List.{List, [], ◌∷◌}
-use Prim.Native.Nat.{ℕ, ◌+◌, ◌/◌, ◌≤◌, ◌<◌}
+use Prim.Native.Nat.{ℕ, ◌≤◌, ◌<◌}
 use native.Mathlib.Omega.{arith}
 use borrow.Author.Tests.{ltb-true, ltb-false, lt-ltb, le-ltb, eqb-true, eqb-false, ne_eqb}
 use lib.Dec.{eqb, ltb, leb}
-use lib.ListN.{length, get_or, set, drop, replicate, length-set, length-replicate, get_or-replicate}
+use lib.ListN.{length, get_or, set, replicate, length-set, length-replicate, get_or-replicate}
 use lib.Seq.{get_or-set_same, get_or-set_other}
 use Rattle.cells.specs.declared.Cell.{Cell}
-use Rattle.cells.specs.Cells.{no_cell, cells_of, empty, committed}
+use Rattle.cells.specs.Cells.{empty, committed}
 use Rattle.cells.specs.Rules.{has_cell, newer, between, keeps}
 use Rattle.cells.specs.Tables.{all_tops, raised, raised_by, tops_from, tops_of, any_cell, up_to}
 use Rattle.cells.specs.Tables.{outdated_by, surpassed_in, held_in, TablesTell}
-use Rattle.cells.proofs.Scan.{cells_next, cells_end}
 
 -- THE PASS
 
--- a higher number is stored, another leaves the table, and so does a word that is not in it
 module _ (t : List ℕ) (w n : ℕ) where
   abbrev chosen : Bool → List ℕ
   chosen b = cond b (set t w n) t
-
-  pub raise_store : w < all_tops → get_or t w 0 < n → set t w n ≡ raised t w n
-  raise_store h l = sym (λ i. chosen (lt-ltb w all_tops h i && lt-ltb (get_or t w 0) n l i))
-
-  pub raise_leave : w < all_tops → n ≤ get_or t w 0 → t ≡ raised t w n
-  raise_leave h l = sym (λ i. chosen (lt-ltb w all_tops h i && le-ltb (get_or t w 0) n l i))
-
-  pub raise_past : all_tops ≤ w → t ≡ raised t w n
-  raise_past h = sym (λ i. chosen (le-ltb w all_tops h i && ltb (get_or t w 0) n))
 
   -- an uncommitted cell leaves every table as it is
   raise_none : n ≡ 0 → t ≡ raised t w n
@@ -63,14 +52,6 @@ module _ (p : Cell → Bool) (t : List ℕ) (cs : List Cell) where
   tops_end e = ap (tops_from p t) e
 
 -- WHAT A TABLE TELLS
-
--- the answer by the table where the first word is in it, otherwise the other
-module _ (w : ℕ) (x y : Bool) where
-  pub in_table : w < all_tops → x ≡ cond (ltb w all_tops) x y
-  in_table h = sym (ap (λ (b : Bool). cond b x y) (lt-ltb w all_tops h))
-
-  pub past_table : all_tops ≤ w → y ≡ cond (ltb w all_tops) x y
-  past_table h = sym (ap (λ (b : Bool). cond b x y) (le-ltb w all_tops h))
 
 -- of two numbers, the higher is above n if one of them is
 higher_second : (n a b : ℕ) (t : Bool) → ltb n a ≡ t → a < b → ltb n b ≡ (t || ltb n b)

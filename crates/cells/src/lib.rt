@@ -145,14 +145,14 @@ impl Cell {
 pub fn count(cells: &[u32]) -> usize
     ensures { result ≡ count_of (length cells.now) }
 {
-    cells.len() / 4
+    cells.len() / Cell::WORDS
 }
 
 // Whether a number of words is 1 to so many whole cells
 pub fn whole(words: usize, most: usize) -> bool
     ensures { result ≡ whole_cells most words }
 {
-    (words % 4 == 0) & (1 <= words / 4) & (words / 4 <= most)
+    words % Cell::WORDS == 0 && (1..=most).contains(&(words / Cell::WORDS))
 }
 
 // The cell of a number; four zeros for a number that no cell has
@@ -162,7 +162,7 @@ pub fn cell_at(cells: &[u32], i: usize) -> Cell
     if count(cells) <= i {
         return Cell::none();
     }
-    let w = 4 * i;
+    let w = Cell::WORDS * i;
     Cell {
         word: cells[w],
         value: cells[w + 1],
@@ -178,7 +178,7 @@ pub fn put_cell(cells: &mut [u32], i: usize, c: Cell)
     if count(cells) <= i {
         return;
     }
-    let w = 4 * i;
+    let w = Cell::WORDS * i;
     cells[w] = c.word;
     cells[w + 1] = c.value;
     cells[w + 2] = c.number;
