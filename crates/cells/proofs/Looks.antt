@@ -3,11 +3,9 @@
 use mathlib.Core.Path.{◌≡◌, refl, sym, ap, ◌∙◌}
 use mathlib.Core.Bool.{Bool, true, false, ◌&&◌, ◌||◌, or-false, or_assoc}
 use mathlib.Core.List.{List, [], ◌∷◌}
-use Prim.Native.Nat.{ℕ, ◌+◌, ◌*◌, ◌/◌, ◌^◌, ◌≤◌, ◌<◌}
-use native.Mathlib.Omega.{arith}
-use borrow.Author.Tests.{ltb-true, ltb-false, ne_eqb}
+use Prim.Native.Nat.{ℕ, ◌+◌, ◌/◌, ◌≤◌, ◌<◌}
 use lib.Dec.{ltb}
-use lib.ListN.{length, get_or, drop, get_or-eq_default}
+use lib.ListN.{length, get_or, drop}
 use Rattle.std.specs.Prelude.{Option, Some, None}
 use Rattle.cells.specs.declared.Cell.{Cell}
 use Rattle.cells.specs.declared.Looked.{Looked}
@@ -15,7 +13,6 @@ use Rattle.cells.specs.Cells.{no_cell, cells_of, of_key, own, foreign, seen_by}
 use Rattle.cells.specs.Rules.{lowest_from, mine, own_at, has_cell, has_foreign, clashes, blocks, conflict, newest, visible, newest_seen}
 use Rattle.cells.specs.Rules.{pick_found, pick_cell, look_of}
 use Rattle.cells.specs.Search.{NextAt, lowest_of, no_look, look_turn, pick_look, look_from}
-use Rattle.cells.proofs.Words.{length_cells, cell_read}
 use Rattle.cells.proofs.Scan.{cells_next, cells_end}
 use Rattle.cells.proofs.Skip.{skip}
 

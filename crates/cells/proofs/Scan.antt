@@ -3,17 +3,40 @@
 --     has_..        whether one passes
 --     to_..         cells that are changed one by one, in words
 -- Assumes nothing.
-use mathlib.Core.Path.{◌≡◌, sym, ap, ◌∙◌}
-use mathlib.Core.Bool.{Bool, true, false}
+use mathlib.Core.Path.{◌≡◌, refl, sym, ap, ◌∙◌}
+use mathlib.Core.Bool.{Bool, true, false, ◌||◌}
 use mathlib.Core.List.{List, [], ◌∷◌, map}
 use Prim.Native.Nat.{ℕ, ◌+◌, ◌/◌, ◌≤◌, ◌<◌}
 use lib.ListN.{length, get_or, set, drop, drop_of_length-le}
 use Rattle.std.specs.Prelude.{Some, None}
+use Rattle.std.specs.List.{list_any}
+use denote.Param.Members.{Mut}
+use Rattle.std.specs.Fn.{Called}
+use Rattle.std.specs.Iterator.{YieldsFirst, ChecksAny}
+use Rattle.std.proofs.Common.{Bor}
+use Rattle.std.proofs.lemmas.Iterator.Consumers.{YieldsList-from_first}
+use Rattle.std.proofs.lemmas.Iterator.Search.{any_from_yields_List}
 use Rattle.cells.specs.declared.Cell.{Cell}
+use Rattle.cells.specs.declared.Cells.{Cells}
 use Rattle.cells.specs.Cells.{no_cell, cells_of, with_cells}
 use Rattle.cells.specs.Rules.{lowest_from, has_cell}
 use Rattle.cells.proofs.Laws.{drop_next, map_to, map_to_at, map_to_next, map_to_all, map_to_none}
 use Rattle.cells.proofs.Words.{with_cells_lem, cells_with, with_with, length_cells}
+
+-- the test of std's lists is the rule's
+any_has : (p : Cell → Bool) (cs : List Cell) → list_any p cs ≡ has_cell p cs
+unfolding has_cell
+any_has p [] = refl
+any_has p (c ∷ cs) = ap (λ (t : Bool). p c || t) (any_has p cs)
+
+-- what `any` over the cells of lent words answers, by a closure that makes a test
+pub any_cells : {F : Type 0} {g : Mut F (Cell × Unit {0}) Bool} (p : Cell → Bool) (ws : Bor (List ℕ)) (left : Cells) (f : F) (r : Bool)
+    → ChecksAny (YieldsFirst {S = Cells} (λ s. cells_of s.0.now)) g (record { 0 = ws }) f r left
+    → ((c : Cell) (t : Bool) (after : F) → Called g f (c, tt) t after → (after ≡ f) × (t ≡ p c))
+    → r ≡ has_cell p (cells_of ws.now)
+any_cells p ws left f r ran told =
+    any_from_yields_List p left f r ran (YieldsList-from_first (λ c. c) (λ s. cells_of s.0.now) (cells_of ws.now) refl) told
+    ∙ any_has p (cells_of ws.now)
 
 -- a turn of a scan
 module _ (ws : List ℕ) (i : ℕ) (h : i < length ws / 4) where

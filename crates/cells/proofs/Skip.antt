@@ -4,18 +4,19 @@
 --     to_over        the same for a loop that changes each cell in turn, where cells with another number stay as they are
 -- Assumes nothing.
 use mathlib.Core.Path.{◌≡◌, refl, sym, ap, ◌∙◌}
-use mathlib.Core.Bool.{Bool, true, false, not, ◌&&◌, ◌||◌, and-false}
+use mathlib.Core.Bool.{Bool, true, false, ◌&&◌, ◌||◌}
 use mathlib.Core.List.{List, [], ◌∷◌}
-use Prim.Native.Nat.{ℕ, zero, suc, ◌+◌, ◌-◌, ◌≤◌, ◌<◌}
+use Prim.Native.Nat.{ℕ, zero, suc, ◌+◌, ◌-◌, ◌≤◌, ◌<◌, max}
 use native.Mathlib.Omega.{arith}
 use borrow.Author.Count.{below_more}
 use borrow.Author.Tests.{ltb-true, ltb-false}
 use lib.Dec.{eqb, ltb, leb}
 use lib.ListN.{length, get_or, drop, drop_of_length-le}
+use Rattle.std.specs.Prelude.{None}
 use Rattle.cells.specs.declared.Cell.{Cell}
-use Rattle.cells.specs.Cells.{no_cell, cells_of, with_cells, empty, own, committed}
+use Rattle.cells.specs.Cells.{no_cell, cells_of, with_cells, committed}
 use Rattle.cells.specs.Rules.{has_cell, between}
-use Rattle.cells.specs.Search.{Leaves, four_have, NextAt}
+use Rattle.cells.specs.Search.{Leaves, four_have, NextAt, NextIs}
 use Rattle.cells.proofs.Tests.{or_left, or_right}
 use Rattle.cells.proofs.Laws.{drop_next, map_to, map_to_later, map_to_skip}
 use Rattle.cells.proofs.Words.{cells_with}
@@ -45,6 +46,10 @@ module _ (p : Cell → Bool) (cs : List Cell) (from : ℕ) where
   eight_more i h e k l =
       four_more (i + 4) (four_more i h (or_left (four_have p i cs) (four_have p (i + 4) cs) e))
       (or_right (four_have p i cs) (four_have p (i + 4) cs) e) k (omega arith)
+
+-- none of the cells from `from` on passes
+pub none_next : (p : Cell → Bool) (from : ℕ) (cs : List Cell) → ((k : ℕ) → k < max from (length cs) → Passed p cs from k) → NextIs p from cs None
+none_next p from cs h = record { onward = omega arith; passed = h; found = λ l. absurd (omega arith) }
 
 module _ {R : Type 0} (go : ℕ → List Cell → R) (p : Cell → Bool)
     (over : (i : ℕ) (c : Cell) (l : List Cell) → p c ≡ false → go i (c ∷ l) ≡ go (i + 1) l)
@@ -87,12 +92,6 @@ module _ (p q : Cell → Bool) (only : (c : Cell) → q c ≡ false → p c ≡ 
 -- only cells of its first word come between a cell and a view
 pub between_other : (c : Cell) (view : ℕ) (d : Cell) → eqb d.word c.word ≡ false → between c view d ≡ false
 between_other c view d e = ap (λ (t : Bool). t && committed d && ltb c.commit d.commit && leb d.commit view) e
-
--- a cell with another number is not own
-pub other_not_own : (number : ℕ) (c : Cell) → eqb c.number number ≡ false → own number c ≡ false
-other_not_own number c e =
-    let held = not (empty c) && eqb c.commit 0 in
-    ap (λ (t : Bool). held && t) e ∙ and-false held
 
 module _ (f : Cell → Cell) (number : ℕ) (stays : Leaves number f) (ws : List ℕ) where
   -- from cell i on to the next one with the number nothing is to be changed

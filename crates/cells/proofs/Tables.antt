@@ -3,34 +3,23 @@
 use mathlib.Core.Path.{◌≡◌, refl, sym, ap, ◌∙◌}
 use mathlib.Core.Bool.{Bool, true, false, cond, not, ◌&&◌, ◌||◌, and-false, and_comm, or-false, or_assoc}
 use mathlib.Core.List.{List, [], ◌∷◌}
-use Prim.Native.Nat.{ℕ, ◌+◌, ◌/◌, ◌≤◌, ◌<◌}
+use Prim.Native.Nat.{ℕ, ◌≤◌, ◌<◌}
 use native.Mathlib.Omega.{arith}
 use borrow.Author.Tests.{ltb-true, ltb-false, lt-ltb, le-ltb, eqb-true, eqb-false, ne_eqb}
 use lib.Dec.{eqb, ltb, leb}
-use lib.ListN.{length, get_or, set, drop, replicate, length-set, length-replicate, get_or-replicate}
+use lib.ListN.{length, get_or, set, replicate, length-set, length-replicate, get_or-replicate}
 use lib.Seq.{get_or-set_same, get_or-set_other}
 use Rattle.cells.specs.declared.Cell.{Cell}
-use Rattle.cells.specs.Cells.{no_cell, cells_of, empty, committed}
+use Rattle.cells.specs.Cells.{empty, committed}
 use Rattle.cells.specs.Rules.{has_cell, newer, between, keeps}
 use Rattle.cells.specs.Tables.{all_tops, raised, raised_by, tops_from, tops_of, any_cell, up_to}
 use Rattle.cells.specs.Tables.{outdated_by, surpassed_in, held_in, TablesTell}
-use Rattle.cells.proofs.Scan.{cells_next, cells_end}
 
 -- THE PASS
 
--- a higher number is stored, another leaves the table, and so does a word that is not in it
 module _ (t : List ℕ) (w n : ℕ) where
   abbrev chosen : Bool → List ℕ
   chosen b = cond b (set t w n) t
-
-  pub raise_store : w < all_tops → get_or t w 0 < n → set t w n ≡ raised t w n
-  raise_store h l = sym (λ i. chosen (lt-ltb w all_tops h i && lt-ltb (get_or t w 0) n l i))
-
-  pub raise_leave : w < all_tops → n ≤ get_or t w 0 → t ≡ raised t w n
-  raise_leave h l = sym (λ i. chosen (lt-ltb w all_tops h i && le-ltb (get_or t w 0) n l i))
-
-  pub raise_past : all_tops ≤ w → t ≡ raised t w n
-  raise_past h = sym (λ i. chosen (le-ltb w all_tops h i && ltb (get_or t w 0) n))
 
   -- an uncommitted cell leaves every table as it is
   raise_none : n ≡ 0 → t ≡ raised t w n
@@ -52,33 +41,17 @@ uncommitted_leaves p t c e = by_test (p c)
     by_test true = raise_none t c.word c.commit e
     by_test false = refl
 
-module _ (p : Cell → Bool) (t : List ℕ) (ws : List ℕ) (i : ℕ) where
-  tops_turn : i < length ws / 4
-      → tops_from p t (drop i (cells_of ws)) ≡ tops_from p (raised_by p t (get_or (cells_of ws) i no_cell)) (drop (i + 1) (cells_of ws))
-  unfolding tops_from
-  tops_turn h = ap (tops_from p t) (cells_next ws i h)
-
+module _ (p : Cell → Bool) (t : List ℕ) (cs : List Cell) where
   -- a turn whose cell is c, and which leaves the table r
-  pub tops_next : i < length ws / 4 → (c : Cell) → c ≡ get_or (cells_of ws) i no_cell → (r : List ℕ) → r ≡ raised_by p t c
-      → tops_from p t (drop i (cells_of ws)) ≡ tops_from p r (drop (i + 1) (cells_of ws))
-  tops_next h c e r q =
-      tops_turn h
-      ∙ ap (λ (x : Cell). tops_from p (raised_by p t x) (drop (i + 1) (cells_of ws))) (sym e)
-      ∙ ap (λ (u : List ℕ). tops_from p u (drop (i + 1) (cells_of ws))) (sym q)
-
-  pub tops_end : length ws / 4 ≤ i → tops_from p t (drop i (cells_of ws)) ≡ t
+  pub tops_next : (c : Cell) (left : List Cell) → cs ≡ c ∷ left → (r : List ℕ) → r ≡ raised_by p t c → tops_from p t cs ≡ tops_from p r left
   unfolding tops_from
-  tops_end h = ap (tops_from p t) (cells_end ws i h)
+  tops_next c left e r q = ap (tops_from p t) e ∙ ap (λ (u : List ℕ). tops_from p u left) (sym q)
+
+  pub tops_end : cs ≡ [] → tops_from p t cs ≡ t
+  unfolding tops_from
+  tops_end e = ap (tops_from p t) e
 
 -- WHAT A TABLE TELLS
-
--- the answer by the table where the first word is in it, otherwise the other
-module _ (w : ℕ) (x y : Bool) where
-  pub in_table : w < all_tops → x ≡ cond (ltb w all_tops) x y
-  in_table h = sym (ap (λ (b : Bool). cond b x y) (lt-ltb w all_tops h))
-
-  pub past_table : all_tops ≤ w → y ≡ cond (ltb w all_tops) x y
-  past_table h = sym (ap (λ (b : Bool). cond b x y) (le-ltb w all_tops h))
 
 -- of two numbers, the higher is above n if one of them is
 higher_second : (n a b : ℕ) (t : Bool) → ltb n a ≡ t → a < b → ltb n b ≡ (t || ltb n b)

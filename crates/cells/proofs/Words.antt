@@ -5,13 +5,15 @@
 --     length_..                  how many words and cells there are
 --     cell_read, cell_write      what four reads and four stores at a cell's words are
 --     cell_past, write_past      the same for a number that no cell has
+--     few_words, first_cell      the first cell of words, and the words left
 -- Assumes nothing.
 use mathlib.Core.Path.{◌≡◌, refl, sym, ap, ◌∙◌}
 use mathlib.Core.List.{List, [], ◌∷◌, ◌++◌}
-use Prim.Native.Nat.{ℕ, zero, suc, ◌+◌, ◌*◌, ◌/◌, ◌%◌, ◌≤◌, ◌<◌}
+use Prim.Native.Nat.{ℕ, zero, suc, ◌+◌, ◌-◌, ◌*◌, ◌/◌, ◌%◌, ◌≤◌, ◌<◌}
 use native.Mathlib.Omega.{arith}
-use lib.ListN.{length, get_or, set, get_or-eq_default}
+use lib.ListN.{length, get_or, set, take, drop, get_or-eq_default}
 use lib.Seq.{set_out}
+use Rattle.std.proofs.lemmas.List.{append-nil, nil_from_length, take_rest}
 use Rattle.cells.specs.declared.Cell.{Cell}
 use Rattle.cells.specs.Cells.{cells_of, words_of, past_cells, with_cells, no_cell}
 
@@ -77,12 +79,8 @@ length_with ws (c ∷ cs) = omega (arith, length_with ws cs)
 pub length_same : (ws : List ℕ) (cs : List Cell) → length cs ≡ length (cells_of ws) → length (with_cells ws cs) ≡ length ws
 length_same ws cs e = omega (arith, length_with ws cs, length_cells ws)
 
-no_words : (ws : List ℕ) → length ws ≡ 0 → ws ≡ []
-no_words [] e = refl
-no_words (a ∷ ws) e = absurd (omega arith)
-
 pub past_whole : (ws : List ℕ) → length ws % 4 ≡ 0 → past_cells ws ≡ []
-past_whole ws e = no_words (past_cells ws) (length_past ws ∙ e)
+past_whole ws e = nil_from_length (past_cells ws) (length_past ws ∙ e)
 
 -- no words are lent, and so none stand past the cells
 pub cells_words : (cs : List Cell) → cells_of (words_of cs) ≡ cs
@@ -90,13 +88,9 @@ unfolding cells_of words_of
 cells_words [] = refl
 cells_words (c ∷ cs) = ap (λ (r : List Cell). c ∷ r) (cells_words cs)
 
-append_none : (ws : List ℕ) → ws ++ [] ≡ ws
-append_none [] = refl
-append_none (a ∷ ws) = ap (λ (r : List ℕ). a ∷ r) (append_none ws)
-
 pub whole_words : (ws : List ℕ) (cs : List Cell) → length ws % 4 ≡ 0 → with_cells ws cs ≡ words_of cs
 unfolding with_cells
-whole_words ws cs e = ap (λ (past : List ℕ). words_of cs ++ past) (past_whole ws e) ∙ append_none (words_of cs)
+whole_words ws cs e = ap (λ (past : List ℕ). words_of cs ++ past) (past_whole ws e) ∙ append-nil (words_of cs)
 
 -- where the words of the next cell stand
 over : (i j : ℕ) → 4 * suc i + j ≡ suc (suc (suc (suc (4 * i + j))))
@@ -145,3 +139,30 @@ module _ (ws : List ℕ) (i : ℕ) (h : length ws / 4 ≤ i) where
 
   pub write_past : (c : Cell) → ws ≡ with_cells ws (set (cells_of ws) i c)
   write_past c = sym (ap (with_cells ws) (set_out (cells_of ws) i c past_cells_lem) ∙ with_cells_lem ws)
+
+-- the first cell of words, and the words left
+pub few_words : (ws : List ℕ) → length ws < 4 → cells_of ws ≡ []
+unfolding cells_of
+few_words [] h = refl
+few_words (a ∷ []) h = refl
+few_words (a ∷ (b ∷ [])) h = refl
+few_words (a ∷ (b ∷ (c ∷ []))) h = refl
+few_words (a ∷ (b ∷ (c ∷ (d ∷ ws)))) h = absurd (omega arith)
+
+first_dropped : (ws : List ℕ) → 4 ≤ length ws → cells_of ws ≡ cell_at ws 0 ∷ cells_of (drop 4 ws)
+unfolding cells_of
+first_dropped [] h = absurd (omega arith)
+first_dropped (a ∷ []) h = absurd (omega arith)
+first_dropped (a ∷ (b ∷ [])) h = absurd (omega arith)
+first_dropped (a ∷ (b ∷ (c ∷ []))) h = absurd (omega arith)
+first_dropped (a ∷ (b ∷ (c ∷ (d ∷ ws)))) h = refl
+
+module _ (ws : List ℕ) (h : 4 ≤ length ws) where
+  abbrev pub words_left : List ℕ
+  words_left = take (length ws - 4) (drop 4 ws)
+
+  pub first_cell : cells_of ws ≡ cell_at ws 0 ∷ cells_of words_left
+  first_cell = rw (take_rest ws 4) (first_dropped ws h)
+
+  pub one_less : length (cells_of words_left) < length (cells_of ws)
+  one_less = rw first_cell (omega arith)

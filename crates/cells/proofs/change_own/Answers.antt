@@ -2,7 +2,6 @@ use borrow.Author.Rules.{rules}
 use native.Mathlib.Omega.{arith}
 use mathlib.Core.Path.{◌≡◌, ◌∙◌}
 use lib.Dec.{eqb}
-use lib.ListN.{length}
 use Rattle.cells.specs.Cells.{cells_of, with_cells}
 use Rattle.cells.proofs.Laws.{map_to}
 use Rattle.cells.proofs.Words.{length_cells}

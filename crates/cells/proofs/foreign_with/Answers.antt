@@ -1,27 +1,10 @@
-use borrow.Author.Rules.{rules}
-use mathlib.Core.Path.{◌≡◌, refl, sym, ◌∙◌}
-use mathlib.Core.Bool.{true, false}
-use lib.ListN.{get_or}
-use Rattle.cells.specs.Cells.{cells_of, no_cell}
+use Rattle.std.proofs.Common.{rules, tests}
 use Rattle.cells.specs.Rules.{foreign_with, foreign_of}
-use Rattle.cells.proofs.Scan.{has_here, has_next, has_end}
+use Rattle.cells.proofs.Scan.{any_cells}
 use Rattle.cells.proofs.foreign_with.Goals as goal
 
-pub loop-i-init : goal.loop-i-init
-unfolding foreign_with
-loop-i-init c = (search rules, refl)
-
-pub returns-then-foreign_of : goal.returns-then-foreign_of
-returns-then-foreign_of c =
-    let s = c.args in
-    let e : foreign_of s.key s.number s.other (get_or (cells_of s.cells.now) c.loop-i.i no_cell) ≡ true = cc in
-    sym (c.loop-i.invariant.1 ∙ has_here s.cells.now c.loop-i.i (search rules) _ e)
-
-pub loop-i-preserved : goal.loop-i-preserved
-loop-i-preserved c =
-    let s = c.args in
-    let e : foreign_of s.key s.number s.other (get_or (cells_of s.cells.now) c.loop-i.i no_cell) ≡ false = cc in
-    (search rules, c.loop-i.invariant.1 ∙ has_next s.cells.now c.loop-i.i (search rules) _ e)
-
 pub returns : goal.returns
-returns c = sym (c.loop-i.invariant.1 ∙ has_end _ c.loop-i.i (search rules) _)
+unfolding foreign_with
+returns c =
+    any_cells (foreign_of c.args.key c.args.number c.args.other) c.args.cells c.any.new.self _ _ c.any.ensures.ran
+    (λ d t after e. search (rules, tests))

@@ -4,7 +4,7 @@ use mathlib.Core.Path.{◌≡◌, ◌∙◌}
 use native.Mathlib.Omega.{arith}
 use mathlib.Core.Bool.{true, false}
 use lib.Dec.{eqb}
-use lib.ListN.{length, get_or}
+use lib.ListN.{get_or}
 use Rattle.cells.specs.Cells.{cells_of, no_cell}
 use Rattle.cells.specs.Rules.{between}
 use Rattle.cells.proofs.Words.{length_cells}

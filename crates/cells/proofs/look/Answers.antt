@@ -1,21 +1,15 @@
 use borrow.Author.Rules.{rules}
 use native.Mathlib.Omega.{arith}
 use mathlib.Core.Path.{sym, ap, ◌∙◌}
-use Prim.Native.Nat.{ℕ, ◌+◌, ◌<◌}
+use Prim.Native.Nat.{◌+◌, ◌<◌}
 use lib.ListN.{length, drop}
 use Rattle.cells.specs.declared.Cell.{Cell}
 use Rattle.cells.specs.declared.Looked.{Looked}
 use Rattle.cells.specs.Cells.{cells_of, of_key}
-use Rattle.cells.specs.Search.{no_look, look_turn, look_from}
+use Rattle.cells.specs.Search.{look_turn, look_from}
 use Rattle.cells.proofs.Words.{length_cells}
 use Rattle.cells.proofs.Looks.{look_skip, look_here, look_end, look_is}
 use Rattle.cells.proofs.look.Goals as goal
-
-pub loop-at-init : goal.loop-at-init
-loop-at-init c =
-    let s = c.args in
-    let cs = cells_of s.cells.now in
-    ap (λ (l : Looked). look_from s.key s.number s.view 0 l cs) (sym c.none-seen.ensures)
 
 pub loop-at-preserved : goal.loop-at-preserved
 loop-at-preserved c =

@@ -1,10 +1,10 @@
 use borrow.Author.Rules.{rules}
 use borrow.Author.Count.{below_more}
-use mathlib.Core.Path.{◌≡◌, sym, ap, ◌∙◌}
+use mathlib.Core.Path.{sym, ap, ◌∙◌}
 use native.Mathlib.Omega.{arith}
 use Rattle.cells.specs.Cells.{cells_of}
 use Rattle.cells.proofs.Words.{length_cells}
-use Rattle.cells.proofs.Skip.{eight_more}
+use Rattle.cells.proofs.Skip.{eight_more, none_next}
 use Rattle.cells.proofs.next.Goals as goal
 
 pub loop-i-preserved-then-not-four_have : goal.loop-i-preserved-then-not-four_have
@@ -32,8 +32,4 @@ loop-i-preserved g c = (
 pub returns-clause-first : goal.returns-clause-first
 returns-clause-first g c p told =
     let cells = length_cells c.args.cells.now in
-    record {
-      onward = omega arith;
-      passed = λ k below. c.loop-i.invariant.1 p told k (omega (arith, cells));
-      found = λ h. absurd (omega arith);
-    }
+    none_next p _ _ (λ k below. c.loop-i.invariant.1 p told k (omega (arith, cells)))

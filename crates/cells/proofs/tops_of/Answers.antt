@@ -6,59 +6,54 @@ use Rattle.cells.specs.Tables.{tops_of, any_cell, up_to, raised}
 use Rattle.cells.proofs.Tables.{tops_next, tops_end, uncommitted_leaves}
 use Rattle.cells.proofs.tops_of.Goals as goal
 
-pub loop-i-init : goal.loop-i-init
+pub loop-c-init : goal.loop-c-init
 unfolding tops_of
-loop-i-init c = (search rules, refl, refl)
+loop-c-init c = rw c.into_iter-c-iterator.ensures.into_iter_gives (record { all = refl; seen = refl })
 
-pub loop-i-preserved-then-c-eq0 : goal.loop-i-preserved-then-c-eq0
-loop-i-preserved-then-c-eq0 c =
-    let l = c.loop-i in
-    let s = c.args in
-    let x = c.cell_at-c in
-    let none : x.result.commit ≡ 0 = c.if-c-eq0.true in (
-      search rules,
-      l.invariant.1
-          ∙ tops_next any_cell l.all s.cells.now l.i (search rules) x.result x.ensures l.all
-          (uncommitted_leaves any_cell l.all x.result none),
-      l.invariant.2
-          ∙ tops_next (up_to s.view) l.seen s.cells.now l.i (search rules) x.result x.ensures l.seen
-          (uncommitted_leaves (up_to s.view) l.seen x.result none),
-    )
+pub loop-c-preserved-then-c-eq0 : goal.loop-c-preserved-then-c-eq0
+loop-c-preserved-then-c-eq0 c =
+    let l = c.loop-c in
+    let x = c.in-Some.c in
+    let none : x.commit ≡ 0 = c.if-c-eq0.true in
+    let next = c.in-Some.ensures.steps in
+    record {
+      all = l.invariant.all ∙ tops_next any_cell l.all _ x _ next l.all (uncommitted_leaves any_cell l.all x none);
+      seen = l.invariant.seen ∙ tops_next (up_to c.args.view) l.seen _ x _ next l.seen (uncommitted_leaves (up_to c.args.view) l.seen x none);
+    }
 
-pub loop-i-preserved-then-c-view : goal.loop-i-preserved-then-c-view
-loop-i-preserved-then-c-view c =
-    let l = c.loop-i in
-    let s = c.args in
-    let x = c.cell_at-c in
-    let all = c.raise in
-    let e : up_to s.view x.result ≡ true = le-leb x.result.commit s.view (search rules) in (
-      search rules,
-      l.invariant.1
-          ∙ tops_next any_cell l.all s.cells.now l.i (search rules) x.result x.ensures all.new.t all.ensures,
-      l.invariant.2
-          ∙ tops_next (up_to s.view) l.seen s.cells.now l.i (search rules) x.result x.ensures c.raise-then-c-view.new.t
-          (c.raise-then-c-view.ensures ∙ sym (ap (λ (b : Bool). cond b (raised l.seen x.result.word x.result.commit) l.seen) e)),
-    )
+pub loop-c-preserved-then-c-view : goal.loop-c-preserved-then-c-view
+loop-c-preserved-then-c-view c =
+    let l = c.loop-c in
+    let x = c.in-Some.c in
+    let view = c.args.view in
+    let next = c.in-Some.ensures.steps in
+    let e : up_to view x ≡ true = le-leb x.commit view (search rules) in
+    record {
+      all = l.invariant.all ∙ tops_next any_cell l.all _ x _ next _ c.raise.ensures;
+      seen =
+          l.invariant.seen
+          ∙ tops_next (up_to view) l.seen _ x _ next _
+          (c.raise-then-c-view.ensures ∙ sym (ap (λ (b : Bool). cond b (raised l.seen x.word x.commit) l.seen) e));
+    }
 
-pub loop-i-preserved : goal.loop-i-preserved
-loop-i-preserved c =
-    let l = c.loop-i in
-    let s = c.args in
-    let x = c.cell_at-c in
-    let all = c.raise in
-    let e : up_to s.view x.result ≡ false = lt-leb x.result.commit s.view (search rules) in (
-      search rules,
-      l.invariant.1
-          ∙ tops_next any_cell l.all s.cells.now l.i (search rules) x.result x.ensures all.new.t all.ensures,
-      l.invariant.2
-          ∙ tops_next (up_to s.view) l.seen s.cells.now l.i (search rules) x.result x.ensures l.seen
-          (sym (ap (λ (b : Bool). cond b (raised l.seen x.result.word x.result.commit) l.seen) e)),
-    )
+pub loop-c-preserved : goal.loop-c-preserved
+loop-c-preserved c =
+    let l = c.loop-c in
+    let x = c.in-Some.c in
+    let view = c.args.view in
+    let next = c.in-Some.ensures.steps in
+    let e : up_to view x ≡ false = lt-leb x.commit view (search rules) in
+    record {
+      all = l.invariant.all ∙ tops_next any_cell l.all _ x _ next _ c.raise.ensures;
+      seen =
+          l.invariant.seen
+          ∙ tops_next (up_to view) l.seen _ x _ next l.seen (sym (ap (λ (b : Bool). cond b (raised l.seen x.word x.commit) l.seen) e));
+    }
 
 pub returns : goal.returns
 returns c =
-    let l = c.loop-i in
-    let ws = c.args.cells.now in
-    let all = sym (l.invariant.1 ∙ tops_end any_cell l.all ws l.i (search rules)) in
-    let seen = sym (l.invariant.2 ∙ tops_end (up_to c.args.view) l.seen ws l.i (search rules)) in
+    let l = c.loop-c in
+    let none = c.in-None.ensures.steps.0 in
+    let all = sym (l.invariant.all ∙ tops_end any_cell l.all _ none) in
+    let seen = sym (l.invariant.seen ∙ tops_end (up_to c.args.view) l.seen _ none) in
     λ k. record { all = all k; seen = seen k }

@@ -79,7 +79,7 @@ cells-preserved-then-not-outdated_by c =
     let x = c.cell_at-c.result in
     let e = sym c.«empty».ensures ∙ c.if-empty.false in
     let f = sym c.committed.ensures ∙ c.if-not-committed.false in
-    let told = ap (λ (t : Tops). outdated_by t.all cs x) c.tops_of.ensures in
+    let told = ap (λ (t : Tops). outdated_by t.all cs x) c.tops_of-tops.ensures in
     let g = sym (tables_tell cs x e).outdated ∙ sym told ∙ sym c.outdated_by.ensures ∙ c.if-not-outdated_by.true in
     next a.cells.now a.places (search rules) c.cell_at-c.ensures c.cells.invariant
     (free_is a.places cs x e f g refl)
@@ -92,12 +92,12 @@ returns-then-surpassed c =
     let filled : empty x ≡ false = sym c.«empty».ensures ∙ c.if-empty.false in
     let o = c.oldest_view-oldest in
     let view = c.unwrap_or.result in
-    let told = ap (λ (t : Tops). surpassed_in t.seen x) c.tops_of.ensures in
+    let told = ap (λ (t : Tops). surpassed_in t.seen x) c.tops_of-tops.ensures in
     let e = sym told ∙ sym c.surpassed.ensures ∙ c.if-surpassed.true in
     let past = and_right (ltb x.word all_tops) (has_cell (between x view) cs) (sym ((tables_tell cs x filled).surpassed view) ∙ e) in
     let past_oldest = ap (λ (v : ℕ). has_cell (between x v) cs) (sym c.unwrap_or.ensures) ∙ past in
     here a.cells.now a.places (search rules) c.cell_at-c.ensures c.cells.invariant
-    (kept_or_free a.places cs x _ c.tops_of.result c.tops_of.ensures c.«empty».ensures c.if-empty.false
+    (kept_or_free a.places cs x _ c.tops_of-tops.result c.tops_of-tops.ensures c.«empty».ensures c.if-empty.false
     c.committed.ensures c.if-not-committed.false c.outdated_by.ensures c.if-not-outdated_by.false
     (none_keep a.places cs x o.result past_oldest (sym o.ensures)))
 
@@ -108,13 +108,13 @@ cells-preserved-then-is_some_and c =
     let x = c.cell_at-c.result in
     let filled : empty x ≡ false = sym c.«empty».ensures ∙ c.if-empty.false in
     let o = c.oldest_view-oldest in
-    let s = some_and (held_in c.tops_of.result.seen x) o.result c.is_some_and.ensures (λ v k. search (rules, tests)) c.if-is_some_and.true in
+    let s = some_and (held_in c.tops_of-tops.result.seen x) o.result c.is_some_and.ensures (λ v k. search (rules, tests)) c.if-is_some_and.true in
     let view = s.0 in
     let same = c.unwrap_or.ensures ∙ ap (λ (o : Option ℕ). unwrap_or o 0) s.1.0 in
-    let told = ap (λ (t : Tops). held_in t.seen x view) c.tops_of.ensures ∙ ap (λ (v : ℕ). held_in (tops_of (up_to v) cs) x view) same in
+    let told = ap (λ (t : Tops). held_in t.seen x view) c.tops_of-tops.ensures ∙ ap (λ (v : ℕ). held_in (tops_of (up_to v) cs) x view) same in
     let held = and_right (ltb x.word all_tops) (keeps cs x view) (sym ((tables_tell cs x filled).held view) ∙ sym told ∙ s.1.1) in
     next a.cells.now a.places (search rules) c.cell_at-c.ensures c.cells.invariant
-    (kept_or_free a.places cs x _ c.tops_of.result c.tops_of.ensures c.«empty».ensures c.if-empty.false
+    (kept_or_free a.places cs x _ c.tops_of-tops.result c.tops_of-tops.ensures c.«empty».ensures c.if-empty.false
     c.committed.ensures c.if-not-committed.false c.outdated_by.ensures c.if-not-outdated_by.false
     (some_keeps a.places cs x view (sym o.ensures ∙ s.1.0) held))
 
@@ -140,7 +140,7 @@ cells-preserved c =
     let e = and_is is_open (sym c.kept.ensures ∙ c.if-kept.true) in
     let f = c.places.invariant ∙ place_turn q a.places c.places.p-index (omega arith) e in
     next a.cells.now a.places (search rules) c.cell_at-c.ensures c.cells.invariant
-    (kept_or_free a.places cs x _ c.tops_of.result c.tops_of.ensures c.«empty».ensures c.if-empty.false
+    (kept_or_free a.places cs x _ c.tops_of-tops.result c.tops_of-tops.ensures c.«empty».ensures c.if-empty.false
     c.committed.ensures c.if-not-committed.false c.outdated_by.ensures c.if-not-outdated_by.false f)
 
 pub places-preserved : goal.places-preserved
@@ -161,7 +161,7 @@ returns-in-cells c =
     let q = keeps_at cs x in
     let none = c.places.invariant ∙ place_end q a.places c.places.p-index (omega arith) in
     here a.cells.now a.places (search rules) c.cell_at-c.ensures c.cells.invariant
-    (kept_or_free a.places cs x _ c.tops_of.result c.tops_of.ensures c.«empty».ensures c.if-empty.false
+    (kept_or_free a.places cs x _ c.tops_of-tops.result c.tops_of-tops.ensures c.«empty».ensures c.if-empty.false
     c.committed.ensures c.if-not-committed.false c.outdated_by.ensures c.if-not-outdated_by.false none)
 
 pub returns : goal.returns

@@ -11,6 +11,6 @@ use Rattle.steps.proofs.Board.has_counted.Goals as goal
 
 pub returns : goal.returns
 returns c =
-    let b = c.args.self in
+    let b = c.args.self.now in
     all_from_yields_List _ _ _ _ c.all.ensures.ran (YieldsList-from_slice b.places cc) (λ x b q k. search (rules, tests))
     ∙ held_each (counted b.starts b.commits) b.places

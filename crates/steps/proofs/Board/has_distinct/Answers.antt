@@ -11,7 +11,7 @@ use Rattle.steps.proofs.Board.has_distinct.Goals as goal
 
 pub returns-then-has_number : goal.returns-then-has_number
 returns-then-has_number c =
-    let ps = c.args.self.places in
+    let ps = c.args.self.now.places in
     let h : length ps ≡ all_places = search long in
     let held = sym c.is_idle.ensures ∙ c.if-not-is_idle.true in
     let same = sym c.has_number.ensures ∙ c.if-has_number.true in
@@ -19,7 +19,7 @@ returns-then-has_number c =
 
 pub loop-i-preserved : goal.loop-i-preserved
 loop-i-preserved c =
-    let ps = c.args.self.places in
+    let ps = c.args.self.now.places in
     let h : length ps ≡ all_places = search long in
     c.loop-i.invariant
     ∙ elim c.else-not-is_idle.branch [
@@ -32,6 +32,6 @@ loop-i-preserved c =
 
 pub returns : goal.returns
 returns c =
-    let ps = c.args.self.places in
+    let ps = c.args.self.now.places in
     let h : length ps ≡ all_places = search long in
     sym (c.loop-i.invariant ∙ ap distinct (held_end ps c.loop-i.i (omega arith)))

@@ -6,4 +6,4 @@ use Rattle.steps.specs.Shape.{held, distinct}
 use Rattle.steps.proofs.Board.has_distinct.Given as goal
 
 abbrev pub invariant-loop-i : goal.invariant-loop-i
-invariant-loop-i l = distinct (held l.fn.self.places) ≡ distinct (held (drop l.i l.fn.self.places))
+invariant-loop-i l = distinct (held l.self.places) ≡ distinct (held (drop l.i l.self.places))

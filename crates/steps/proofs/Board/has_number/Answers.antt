@@ -13,6 +13,6 @@ use Rattle.steps.proofs.Board.has_number.Goals as goal
 pub returns : goal.returns
 returns c =
     let a = c.args in
-    let l = drop a.from a.self.places in
-    any_from_yields_List _ _ _ _ c.any.ensures.ran (YieldsList-from_slice l (cc (take_rest a.self.places a.from))) (λ x b q k. search (rules, tests))
+    let l = drop a.from a.self.now.places in
+    any_from_yields_List _ _ _ _ c.any.ensures.ran (YieldsList-from_slice l (cc (take_rest a.self.now.places a.from))) (λ x b q k. search (rules, tests))
     ∙ held_number a.number l

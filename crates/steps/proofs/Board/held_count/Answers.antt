@@ -6,4 +6,4 @@ use Rattle.steps.proofs.Places.{held_count}
 use Rattle.steps.proofs.Board.held_count.Goals as goal
 
 pub returns : goal.returns
-returns c = search rules ∙ held_count c.args.self.places
+returns c = search rules ∙ held_count c.args.self.now.places
