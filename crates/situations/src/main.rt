@@ -6,7 +6,7 @@
 use Call::{Commit, Prepare, Read, Rollback, Start, Update};
 use Row::{Called, Fresh, GoesOn, Holds};
 use cells::Cell;
-use records::{Answer, AnswerRead, Call, Reply};
+use records::{Answer, Call, Refusal, Reply};
 use std::{fmt, io};
 use steps::Board;
 
@@ -29,204 +29,204 @@ const SITUATIONS: &[&[Row]] = &[
     // 1. start at 0, read key 7: 0
     &[
         Fresh(16),
-        Called(Start { place: 0 }, Answer::Ok(1)),
-        Called(Read { place: 0, key: 7 }, Answer::Ok(0)),
+        Called(Start { place: 0 }, Ok(1)),
+        Called(Read { place: 0, key: 7 }, Ok(0)),
     ],
     // 2. place 0 starts and updates 7 to 12; place 1 starts and reads 7: 0. Place 0 commits. Place 1 reads 7: still 0. Place 1 updates
     // 7 to 0: CONFLICT. This is the second release.
     &[
         Fresh(16),
-        Called(Start { place: 0 }, Answer::Ok(1)),
-        Called(Update { place: 0, key: 7, value: 12 }, Answer::Ok(0)),
-        Called(Start { place: 1 }, Answer::Ok(2)),
-        Called(Read { place: 1, key: 7 }, Answer::Ok(0)),
-        Called(Commit { place: 0 }, Answer::Ok(1)),
-        Called(Read { place: 1, key: 7 }, Answer::Ok(0)),
-        Called(Update { place: 1, key: 7, value: 0 }, Answer::Conflict),
+        Called(Start { place: 0 }, Ok(1)),
+        Called(Update { place: 0, key: 7, value: 12 }, Ok(0)),
+        Called(Start { place: 1 }, Ok(2)),
+        Called(Read { place: 1, key: 7 }, Ok(0)),
+        Called(Commit { place: 0 }, Ok(1)),
+        Called(Read { place: 1, key: 7 }, Ok(0)),
+        Called(Update { place: 1, key: 7, value: 0 }, Err(Refusal::Conflict)),
     ],
     // 3. after 2, place 1 reads: SPOILED; rolls back: OK; starts: transaction 3; reads 7: 12
     &[
         GoesOn,
-        Called(Read { place: 1, key: 7 }, Answer::Spoiled),
-        Called(Rollback { place: 1 }, Answer::Ok(0)),
-        Called(Start { place: 1 }, Answer::Ok(3)),
-        Called(Read { place: 1, key: 7 }, Answer::Ok(12)),
+        Called(Read { place: 1, key: 7 }, Err(Refusal::Spoiled)),
+        Called(Rollback { place: 1 }, Ok(0)),
+        Called(Start { place: 1 }, Ok(3)),
+        Called(Read { place: 1, key: 7 }, Ok(12)),
     ],
     // 4. 0 and 1 open; 0 updates 5; 1 updates 5: CONFLICT. 0 rolls back; 1 reads 5: SPOILED still.
     &[
         Fresh(16),
-        Called(Start { place: 0 }, Answer::Ok(1)),
-        Called(Start { place: 1 }, Answer::Ok(2)),
-        Called(Update { place: 0, key: 5, value: 1 }, Answer::Ok(0)),
-        Called(Update { place: 1, key: 5, value: 2 }, Answer::Conflict),
-        Called(Rollback { place: 0 }, Answer::Ok(0)),
-        Called(Read { place: 1, key: 5 }, Answer::Spoiled),
+        Called(Start { place: 0 }, Ok(1)),
+        Called(Start { place: 1 }, Ok(2)),
+        Called(Update { place: 0, key: 5, value: 1 }, Ok(0)),
+        Called(Update { place: 1, key: 5, value: 2 }, Err(Refusal::Conflict)),
+        Called(Rollback { place: 0 }, Ok(0)),
+        Called(Read { place: 1, key: 5 }, Err(Refusal::Spoiled)),
     ],
     // 5. 0 and 1 open, both read 1 and 2; 0 updates 1, 1 updates 2; both commit
     &[
         Fresh(16),
-        Called(Start { place: 0 }, Answer::Ok(1)),
-        Called(Start { place: 1 }, Answer::Ok(2)),
-        Called(Read { place: 0, key: 1 }, Answer::Ok(0)),
-        Called(Read { place: 0, key: 2 }, Answer::Ok(0)),
-        Called(Read { place: 1, key: 1 }, Answer::Ok(0)),
-        Called(Read { place: 1, key: 2 }, Answer::Ok(0)),
-        Called(Update { place: 0, key: 1, value: 3 }, Answer::Ok(0)),
-        Called(Update { place: 1, key: 2, value: 4 }, Answer::Ok(0)),
-        Called(Commit { place: 0 }, Answer::Ok(1)),
-        Called(Commit { place: 1 }, Answer::Ok(2)),
+        Called(Start { place: 0 }, Ok(1)),
+        Called(Start { place: 1 }, Ok(2)),
+        Called(Read { place: 0, key: 1 }, Ok(0)),
+        Called(Read { place: 0, key: 2 }, Ok(0)),
+        Called(Read { place: 1, key: 1 }, Ok(0)),
+        Called(Read { place: 1, key: 2 }, Ok(0)),
+        Called(Update { place: 0, key: 1, value: 3 }, Ok(0)),
+        Called(Update { place: 1, key: 2, value: 4 }, Ok(0)),
+        Called(Commit { place: 0 }, Ok(1)),
+        Called(Commit { place: 1 }, Ok(2)),
     ],
     // 6. 0 and 1 open; 0 updates 9 to 3 and prepares; 1 reads 9: PREPARED. 0 rolls back; 1 reads 9: 0.
     &[
         Fresh(16),
-        Called(Start { place: 0 }, Answer::Ok(1)),
-        Called(Start { place: 1 }, Answer::Ok(2)),
-        Called(Update { place: 0, key: 9, value: 3 }, Answer::Ok(0)),
-        Called(Prepare { place: 0 }, Answer::Ok(0)),
-        Called(Read { place: 1, key: 9 }, Answer::Prepared),
-        Called(Rollback { place: 0 }, Answer::Ok(0)),
-        Called(Read { place: 1, key: 9 }, Answer::Ok(0)),
+        Called(Start { place: 0 }, Ok(1)),
+        Called(Start { place: 1 }, Ok(2)),
+        Called(Update { place: 0, key: 9, value: 3 }, Ok(0)),
+        Called(Prepare { place: 0 }, Ok(0)),
+        Called(Read { place: 1, key: 9 }, Err(Refusal::Prepared)),
+        Called(Rollback { place: 0 }, Ok(0)),
+        Called(Read { place: 1, key: 9 }, Ok(0)),
     ],
     // 7. one cell. Commit key 0 with commit number 1. A new transaction updating key 0: FULL; key 1: FULL.
     &[
         Fresh(4),
-        Called(Start { place: 0 }, Answer::Ok(1)),
-        Called(Update { place: 0, key: 0, value: 1 }, Answer::Ok(0)),
-        Called(Commit { place: 0 }, Answer::Ok(1)),
-        Called(Start { place: 0 }, Answer::Ok(2)),
-        Called(Update { place: 0, key: 0, value: 5 }, Answer::Full),
-        Called(Update { place: 0, key: 1, value: 5 }, Answer::Full),
+        Called(Start { place: 0 }, Ok(1)),
+        Called(Update { place: 0, key: 0, value: 1 }, Ok(0)),
+        Called(Commit { place: 0 }, Ok(1)),
+        Called(Start { place: 0 }, Ok(2)),
+        Called(Update { place: 0, key: 0, value: 5 }, Err(Refusal::Full)),
+        Called(Update { place: 0, key: 1, value: 5 }, Err(Refusal::Full)),
     ],
     // 8. two cells. Commit key 0 as 1 with commit number 1, then as 2 with commit number 2. A new transaction updates key 0 to 3: OK, in
     // cell 0.
     &[
         Fresh(8),
-        Called(Start { place: 0 }, Answer::Ok(1)),
-        Called(Update { place: 0, key: 0, value: 1 }, Answer::Ok(0)),
-        Called(Commit { place: 0 }, Answer::Ok(1)),
-        Called(Start { place: 0 }, Answer::Ok(2)),
-        Called(Update { place: 0, key: 0, value: 2 }, Answer::Ok(0)),
-        Called(Commit { place: 0 }, Answer::Ok(2)),
-        Called(Start { place: 0 }, Answer::Ok(3)),
-        Called(Update { place: 0, key: 0, value: 3 }, Answer::Ok(0)),
+        Called(Start { place: 0 }, Ok(1)),
+        Called(Update { place: 0, key: 0, value: 1 }, Ok(0)),
+        Called(Commit { place: 0 }, Ok(1)),
+        Called(Start { place: 0 }, Ok(2)),
+        Called(Update { place: 0, key: 0, value: 2 }, Ok(0)),
+        Called(Commit { place: 0 }, Ok(2)),
+        Called(Start { place: 0 }, Ok(3)),
+        Called(Update { place: 0, key: 0, value: 3 }, Ok(0)),
         Holds(0, Cell { word: 1, value: 3, number: 3, commit: 0 }),
         Holds(1, Cell { word: 1, value: 2, number: 2, commit: 2 }),
     ],
     // 9. as 8, but place 5 opened between the two commits and stays open: FULL
     &[
         Fresh(8),
-        Called(Start { place: 0 }, Answer::Ok(1)),
-        Called(Update { place: 0, key: 0, value: 1 }, Answer::Ok(0)),
-        Called(Commit { place: 0 }, Answer::Ok(1)),
-        Called(Start { place: 5 }, Answer::Ok(2)),
-        Called(Start { place: 0 }, Answer::Ok(3)),
-        Called(Update { place: 0, key: 0, value: 2 }, Answer::Ok(0)),
-        Called(Commit { place: 0 }, Answer::Ok(2)),
-        Called(Start { place: 0 }, Answer::Ok(4)),
-        Called(Update { place: 0, key: 0, value: 3 }, Answer::Full),
-        Called(Read { place: 5, key: 0 }, Answer::Ok(1)),
+        Called(Start { place: 0 }, Ok(1)),
+        Called(Update { place: 0, key: 0, value: 1 }, Ok(0)),
+        Called(Commit { place: 0 }, Ok(1)),
+        Called(Start { place: 5 }, Ok(2)),
+        Called(Start { place: 0 }, Ok(3)),
+        Called(Update { place: 0, key: 0, value: 2 }, Ok(0)),
+        Called(Commit { place: 0 }, Ok(2)),
+        Called(Start { place: 0 }, Ok(4)),
+        Called(Update { place: 0, key: 0, value: 3 }, Err(Refusal::Full)),
+        Called(Read { place: 5, key: 0 }, Ok(1)),
         // the same with the second writer's start before that of place 5
         Fresh(8),
-        Called(Start { place: 0 }, Answer::Ok(1)),
-        Called(Update { place: 0, key: 0, value: 1 }, Answer::Ok(0)),
-        Called(Commit { place: 0 }, Answer::Ok(1)),
-        Called(Start { place: 0 }, Answer::Ok(2)),
-        Called(Start { place: 5 }, Answer::Ok(3)),
-        Called(Update { place: 0, key: 0, value: 2 }, Answer::Ok(0)),
-        Called(Commit { place: 0 }, Answer::Ok(2)),
-        Called(Start { place: 0 }, Answer::Ok(4)),
-        Called(Update { place: 0, key: 0, value: 3 }, Answer::Full),
-        Called(Read { place: 5, key: 0 }, Answer::Ok(1)),
+        Called(Start { place: 0 }, Ok(1)),
+        Called(Update { place: 0, key: 0, value: 1 }, Ok(0)),
+        Called(Commit { place: 0 }, Ok(1)),
+        Called(Start { place: 0 }, Ok(2)),
+        Called(Start { place: 5 }, Ok(3)),
+        Called(Update { place: 0, key: 0, value: 2 }, Ok(0)),
+        Called(Commit { place: 0 }, Ok(2)),
+        Called(Start { place: 0 }, Ok(4)),
+        Called(Update { place: 0, key: 0, value: 3 }, Err(Refusal::Full)),
+        Called(Read { place: 5, key: 0 }, Ok(1)),
     ],
     // 10. key 255 is taken, 256 is KEY; place 15 is taken, 16 is PLACE. Place 256 and key 65,536 have no record: as bytes they are RECORD.
     &[
         Fresh(16),
-        Called(Start { place: 15 }, Answer::Ok(1)),
-        Called(Update { place: 15, key: 255, value: 6 }, Answer::Ok(0)),
-        Called(Read { place: 15, key: 255 }, Answer::Ok(6)),
-        Called(Update { place: 15, key: 256, value: 6 }, Answer::Key),
-        Called(Read { place: 15, key: 256 }, Answer::Key),
-        Called(Start { place: 16 }, Answer::Place),
-        Called(Start { place: 255 }, Answer::Place),
-        Called(Start { place: 256 }, Answer::Place),
-        Called(Read { place: 15, key: 65535 }, Answer::Key),
-        Called(Read { place: 15, key: 65536 }, Answer::Key),
+        Called(Start { place: 15 }, Ok(1)),
+        Called(Update { place: 15, key: 255, value: 6 }, Ok(0)),
+        Called(Read { place: 15, key: 255 }, Ok(6)),
+        Called(Update { place: 15, key: 256, value: 6 }, Err(Refusal::Key)),
+        Called(Read { place: 15, key: 256 }, Err(Refusal::Key)),
+        Called(Start { place: 16 }, Err(Refusal::Place)),
+        Called(Start { place: 255 }, Err(Refusal::Place)),
+        Called(Start { place: 256 }, Err(Refusal::Place)),
+        Called(Read { place: 15, key: 65535 }, Err(Refusal::Key)),
+        Called(Read { place: 15, key: 65536 }, Err(Refusal::Key)),
     ],
     // 11. lengths 4 and 4,096 are in shape
     &[
         Fresh(4),
-        Called(Start { place: 0 }, Answer::Ok(1)),
-        Called(Read { place: 0, key: 7 }, Answer::Ok(0)),
-        Called(Update { place: 0, key: 7, value: 12 }, Answer::Ok(0)),
-        Called(Prepare { place: 0 }, Answer::Ok(0)),
-        Called(Commit { place: 0 }, Answer::Ok(1)),
-        Called(Start { place: 0 }, Answer::Ok(2)),
-        Called(Rollback { place: 0 }, Answer::Ok(0)),
+        Called(Start { place: 0 }, Ok(1)),
+        Called(Read { place: 0, key: 7 }, Ok(0)),
+        Called(Update { place: 0, key: 7, value: 12 }, Ok(0)),
+        Called(Prepare { place: 0 }, Ok(0)),
+        Called(Commit { place: 0 }, Ok(1)),
+        Called(Start { place: 0 }, Ok(2)),
+        Called(Rollback { place: 0 }, Ok(0)),
         Fresh(4096),
-        Called(Start { place: 0 }, Answer::Ok(1)),
-        Called(Read { place: 0, key: 7 }, Answer::Ok(0)),
-        Called(Update { place: 0, key: 7, value: 12 }, Answer::Ok(0)),
-        Called(Prepare { place: 0 }, Answer::Ok(0)),
-        Called(Commit { place: 0 }, Answer::Ok(1)),
-        Called(Start { place: 0 }, Answer::Ok(2)),
-        Called(Rollback { place: 0 }, Answer::Ok(0)),
+        Called(Start { place: 0 }, Ok(1)),
+        Called(Read { place: 0, key: 7 }, Ok(0)),
+        Called(Update { place: 0, key: 7, value: 12 }, Ok(0)),
+        Called(Prepare { place: 0 }, Ok(0)),
+        Called(Commit { place: 0 }, Ok(1)),
+        Called(Start { place: 0 }, Ok(2)),
+        Called(Rollback { place: 0 }, Ok(0)),
         // 0, 6 and 4,100 are BOARD
         Fresh(0),
-        Called(Start { place: 0 }, Answer::Board),
-        Called(Read { place: 0, key: 7 }, Answer::Board),
-        Called(Update { place: 0, key: 7, value: 12 }, Answer::Board),
-        Called(Prepare { place: 0 }, Answer::Board),
-        Called(Commit { place: 0 }, Answer::Board),
-        Called(Rollback { place: 0 }, Answer::Board),
+        Called(Start { place: 0 }, Err(Refusal::Board)),
+        Called(Read { place: 0, key: 7 }, Err(Refusal::Board)),
+        Called(Update { place: 0, key: 7, value: 12 }, Err(Refusal::Board)),
+        Called(Prepare { place: 0 }, Err(Refusal::Board)),
+        Called(Commit { place: 0 }, Err(Refusal::Board)),
+        Called(Rollback { place: 0 }, Err(Refusal::Board)),
         Fresh(6),
-        Called(Start { place: 0 }, Answer::Board),
-        Called(Read { place: 0, key: 7 }, Answer::Board),
-        Called(Update { place: 0, key: 7, value: 12 }, Answer::Board),
-        Called(Prepare { place: 0 }, Answer::Board),
-        Called(Commit { place: 0 }, Answer::Board),
-        Called(Rollback { place: 0 }, Answer::Board),
+        Called(Start { place: 0 }, Err(Refusal::Board)),
+        Called(Read { place: 0, key: 7 }, Err(Refusal::Board)),
+        Called(Update { place: 0, key: 7, value: 12 }, Err(Refusal::Board)),
+        Called(Prepare { place: 0 }, Err(Refusal::Board)),
+        Called(Commit { place: 0 }, Err(Refusal::Board)),
+        Called(Rollback { place: 0 }, Err(Refusal::Board)),
         Fresh(4100),
-        Called(Start { place: 0 }, Answer::Board),
-        Called(Read { place: 0, key: 7 }, Answer::Board),
-        Called(Update { place: 0, key: 7, value: 12 }, Answer::Board),
-        Called(Prepare { place: 0 }, Answer::Board),
-        Called(Commit { place: 0 }, Answer::Board),
-        Called(Rollback { place: 0 }, Answer::Board),
+        Called(Start { place: 0 }, Err(Refusal::Board)),
+        Called(Read { place: 0, key: 7 }, Err(Refusal::Board)),
+        Called(Update { place: 0, key: 7, value: 12 }, Err(Refusal::Board)),
+        Called(Prepare { place: 0 }, Err(Refusal::Board)),
+        Called(Commit { place: 0 }, Err(Refusal::Board)),
+        Called(Rollback { place: 0 }, Err(Refusal::Board)),
         // place 16 on length 6: BOARD
         Fresh(6),
-        Called(Start { place: 16 }, Answer::Board),
-        Called(Read { place: 16, key: 256 }, Answer::Board),
-        Called(Update { place: 16, key: 256, value: 1 }, Answer::Board),
-        Called(Prepare { place: 16 }, Answer::Board),
-        Called(Commit { place: 16 }, Answer::Board),
-        Called(Rollback { place: 16 }, Answer::Board),
+        Called(Start { place: 16 }, Err(Refusal::Board)),
+        Called(Read { place: 16, key: 256 }, Err(Refusal::Board)),
+        Called(Update { place: 16, key: 256, value: 1 }, Err(Refusal::Board)),
+        Called(Prepare { place: 16 }, Err(Refusal::Board)),
+        Called(Commit { place: 16 }, Err(Refusal::Board)),
+        Called(Rollback { place: 16 }, Err(Refusal::Board)),
         // update of key 256 while spoiled: SPOILED
         Fresh(16),
-        Called(Start { place: 0 }, Answer::Ok(1)),
-        Called(Start { place: 1 }, Answer::Ok(2)),
-        Called(Update { place: 0, key: 5, value: 1 }, Answer::Ok(0)),
-        Called(Update { place: 1, key: 5, value: 2 }, Answer::Conflict),
-        Called(Update { place: 1, key: 256, value: 1 }, Answer::Spoiled),
+        Called(Start { place: 0 }, Ok(1)),
+        Called(Start { place: 1 }, Ok(2)),
+        Called(Update { place: 0, key: 5, value: 1 }, Ok(0)),
+        Called(Update { place: 1, key: 5, value: 2 }, Err(Refusal::Conflict)),
+        Called(Update { place: 1, key: 256, value: 1 }, Err(Refusal::Spoiled)),
         // the other checks in their order, on the same board: PLACE before IDLE, IDLE before KEY, SPOILED before KEY, HELD before KEY
         GoesOn,
-        Called(Read { place: 16, key: 256 }, Answer::Place),
-        Called(Commit { place: 16 }, Answer::Place),
-        Called(Read { place: 2, key: 256 }, Answer::Idle),
-        Called(Commit { place: 2 }, Answer::Idle),
-        Called(Rollback { place: 2 }, Answer::Idle),
-        Called(Read { place: 1, key: 256 }, Answer::Spoiled),
-        Called(Prepare { place: 1 }, Answer::Spoiled),
-        Called(Commit { place: 1 }, Answer::Spoiled),
-        Called(Start { place: 1 }, Answer::Busy),
-        Called(Start { place: 0 }, Answer::Busy),
-        Called(Prepare { place: 0 }, Answer::Ok(0)),
+        Called(Read { place: 16, key: 256 }, Err(Refusal::Place)),
+        Called(Commit { place: 16 }, Err(Refusal::Place)),
+        Called(Read { place: 2, key: 256 }, Err(Refusal::Idle)),
+        Called(Commit { place: 2 }, Err(Refusal::Idle)),
+        Called(Rollback { place: 2 }, Err(Refusal::Idle)),
+        Called(Read { place: 1, key: 256 }, Err(Refusal::Spoiled)),
+        Called(Prepare { place: 1 }, Err(Refusal::Spoiled)),
+        Called(Commit { place: 1 }, Err(Refusal::Spoiled)),
+        Called(Start { place: 1 }, Err(Refusal::Busy)),
+        Called(Start { place: 0 }, Err(Refusal::Busy)),
+        Called(Prepare { place: 0 }, Ok(0)),
         // and on
-        Called(Start { place: 0 }, Answer::Busy),
-        Called(Read { place: 0, key: 256 }, Answer::Held),
-        Called(Update { place: 0, key: 256, value: 1 }, Answer::Held),
-        Called(Prepare { place: 0 }, Answer::Held),
-        Called(Commit { place: 0 }, Answer::Ok(1)),
-        Called(Rollback { place: 1 }, Answer::Ok(0)),
+        Called(Start { place: 0 }, Err(Refusal::Busy)),
+        Called(Read { place: 0, key: 256 }, Err(Refusal::Held)),
+        Called(Update { place: 0, key: 256, value: 1 }, Err(Refusal::Held)),
+        Called(Prepare { place: 0 }, Err(Refusal::Held)),
+        Called(Commit { place: 0 }, Ok(1)),
+        Called(Rollback { place: 1 }, Ok(0)),
         Holds(0, Cell { word: 6, value: 1, number: 1, commit: 1 }),
         Holds(1, Cell { word: 0, value: 0, number: 0, commit: 0 }),
     ],
@@ -267,19 +267,13 @@ impl Side {
 
     // A call as a console sends it: its record is written, the record is served, and the answer's record is read. A call that has no
     // record goes nowhere: RECORD.
-    fn send(&mut self, call: Call) -> Result<Reply, Answer> {
+    fn send(&mut self, call: Call) -> Result<Reply, Refusal> {
         let mut asked = [0; records::CALL_BYTES];
         let mut told = [0; records::ANSWER_BYTES];
-        let written = records::write_call(&mut asked, 0, call);
-        if records::number(written) != 0 {
-            return Err(written);
-        }
+        records::write(&mut asked, 0, call)?;
         let served = lanes::serve(self.board, self.lent(), &asked, &mut told);
         self.board = served.board;
-        match records::read_answer(&told, 0) {
-            AnswerRead::Good(reply) => Ok(reply),
-            AnswerRead::Record => Err(Answer::Record),
-        }
+        records::read(&told, 0).ok_or(Refusal::Record)
     }
 
     // A cell of the board.
@@ -342,16 +336,16 @@ impl Run {
         let answer = self.by_value.call(call);
         let reply = self.as_bytes.send(call);
         print!(rt; "{} -> {}", Asked(call), Said(answer))?;
-        let right = same(answer, wanted);
+        let right = answer == wanted;
         if !right {
             print!(rt; ", document 01 says {}", Said(wanted))?;
         }
         let right_sent = match reply {
-            Ok(reply) => (reply.place == records::place_of(call)) & same(reply.answer, wanted),
+            Ok(reply) => (reply.place == records::place_of(call)) & (reply.answer == wanted),
             Err(_) => !has_record(call),
         };
         if !right_sent {
-            print!(rt; ", as bytes {}", Said(told(reply)))?;
+            print!(rt; ", as bytes {}", Said(reply.and_then(|reply| reply.answer)))?;
         }
         self.check(right & right_sent);
         println!(rt)
@@ -362,11 +356,11 @@ impl Run {
         let cell = self.by_value.cell(number);
         let sent = self.as_bytes.cell(number);
         print!(rt; "cell {number} -> {}", Words(cell))?;
-        let right = same_words(cell, wanted);
+        let right = cell == wanted;
         if !right {
             print!(rt; ", document 01 says {}", Words(wanted))?;
         }
-        let right_sent = same_words(cell, sent);
+        let right_sent = cell == sent;
         if !right_sent {
             print!(rt; ", as bytes {}", Words(sent))?;
         }
@@ -380,25 +374,9 @@ impl Run {
     }
 }
 
-// The answer that came back as bytes.
-fn told(reply: Result<Reply, Answer>) -> Answer {
-    match reply {
-        Ok(reply) => reply.answer,
-        Err(refusal) => refusal,
-    }
-}
-
 // Whether a call's place goes into a byte and its key into two.
 fn has_record(call: Call) -> bool {
     u8::try_from(records::place_of(call)).is_ok() & u16::try_from(records::key_of(call)).is_ok()
-}
-
-fn same(a: Answer, b: Answer) -> bool {
-    (records::number(a) == records::number(b)) & (records::value(a) == records::value(b))
-}
-
-fn same_words(a: Cell, b: Cell) -> bool {
-    (a.word == b.word) & (a.value == b.value) & (a.number == b.number) & (a.commit == b.commit)
 }
 
 // A call in document 01's words.
@@ -425,19 +403,8 @@ struct Said(Answer);
 impl fmt::Display for Said {
     fn fmt<W: fmt::Write>(&self, f: &mut fmt::Formatter<W>) -> fmt::Result {
         match self.0 {
-            Answer::Ok(value) => write!(f, "OK {value}"),
-            Answer::Board => write!(f, "BOARD 0"),
-            Answer::Place => write!(f, "PLACE 0"),
-            Answer::Busy => write!(f, "BUSY 0"),
-            Answer::Idle => write!(f, "IDLE 0"),
-            Answer::Worn => write!(f, "WORN 0"),
-            Answer::Spoiled => write!(f, "SPOILED 0"),
-            Answer::Held => write!(f, "HELD 0"),
-            Answer::Key => write!(f, "KEY 0"),
-            Answer::Conflict => write!(f, "CONFLICT 0"),
-            Answer::Prepared => write!(f, "PREPARED 0"),
-            Answer::Full => write!(f, "FULL 0"),
-            Answer::Record => write!(f, "RECORD 0"),
+            Ok(value) => write!(f, "OK {value}"),
+            Err(refusal) => write!(f, "{refusal} 0"),
         }
     }
 }
