@@ -8,14 +8,13 @@ use native.Mathlib.Omega.{arith}
 use borrow.Author.Tests.{ltb-true, ltb-false, ne_eqb}
 use lib.Dec.{ltb}
 use lib.ListN.{length, get_or, drop, get_or-eq_default}
+use Rattle.std.specs.Prelude.{Option, Some, None}
 use Rattle.cells.specs.declared.Cell.{Cell}
-use Rattle.cells.specs.declared.Found.{Found}
-use Rattle.cells.specs.declared.Found.TheVariants.{At, Nothing}
 use Rattle.cells.specs.declared.Looked.{Looked}
 use Rattle.cells.specs.Cells.{no_cell, cells_of, of_key, own, foreign, seen_by}
 use Rattle.cells.specs.Rules.{lowest_from, mine, own_at, has_cell, has_foreign, clashes, blocks, conflict, newest, visible, newest_seen}
 use Rattle.cells.specs.Rules.{pick_found, pick_cell, look_of}
-use Rattle.cells.specs.Search.{lowest_of, no_look, look_turn, pick_look, look_from}
+use Rattle.cells.specs.Search.{NextAt, lowest_of, no_look, look_turn, pick_look, look_from}
 use Rattle.cells.proofs.Words.{length_cells, cell_read}
 use Rattle.cells.proofs.Scan.{cells_next, cells_end}
 use Rattle.cells.proofs.Skip.{skip}
@@ -36,10 +35,12 @@ module _ (key number view : ℕ) where
   look_ends l i j = refl
 
   -- cells that are not of the key are passed over
-  pub look_skip : (l : Looked) (cs : List Cell) (i r : ℕ) → i ≤ r
-      → ((k : ℕ) → k < r → i ≤ k → of_key key (get_or cs k no_cell) ≡ false)
+  pub look_skip : (l : Looked) (cs : List Cell) (i r : ℕ) → NextAt (of_key key) i cs r
       → look_from key number view i l (drop i cs) ≡ look_from key number view r l (drop r cs)
-  look_skip l cs = skip (λ i. look_from key number view i l) (of_key key) (λ i c r. look_turn_lem l i c r false) (look_ends l) cs
+  look_skip l cs i r told =
+      skip (λ i. look_from key number view i l) (of_key key) (λ i c r. look_turn_lem l i c r false) (look_ends l) cs i r
+      told.onward
+      told.passed
 
   -- a cell of the key is looked at
   pub look_here : (l : Looked) (ws : List ℕ) (i : ℕ) → i < length ws / 4 → of_key key (get_or (cells_of ws) i no_cell) ≡ true
@@ -56,24 +57,24 @@ module _ (key number view : ℕ) where
 -- WHAT THE PASS COMES TO
 
 -- the first found, otherwise the second
-abbrev or_found : Found → Found → Found
-or_found (At j) f = At j
-or_found Nothing f = f
+abbrev or_found : Option ℕ → Option ℕ → Option ℕ
+or_found (Some j) f = Some j
+or_found None f = f
 
-or_nothing : (f : Found) → f ≡ or_found f Nothing
-or_nothing (At j) = refl
-or_nothing Nothing = refl
+or_nothing : (f : Option ℕ) → f ≡ or_found f None
+or_nothing (Some j) = refl
+or_nothing None = refl
 
 -- one more cell, of the key or not: what each question knows after it
-own_step : (t u : Bool) (a b : Looked) (i : ℕ) (f : Found) → a.own ≡ lowest_of b.own u i
-    → or_found (pick_look t a b).own f ≡ or_found b.own (pick_found (t && u) (At i) f)
+own_step : (t u : Bool) (a b : Looked) (i : ℕ) (f : Option ℕ) → a.own ≡ lowest_of b.own u i
+    → or_found (pick_look t a b).own f ≡ or_found b.own (pick_found (t && u) (Some i) f)
 own_step false u a b i f e = refl
-own_step true u a b i f e = ap (λ (o : Found). or_found o f) e ∙ taken b.own u
+own_step true u a b i f e = ap (λ (o : Option ℕ). or_found o f) e ∙ taken b.own u
   where
-    taken : (o : Found) (u : Bool) → or_found (lowest_of o u i) f ≡ or_found o (pick_found u (At i) f)
-    taken (At j) u = refl
-    taken Nothing true = refl
-    taken Nothing false = refl
+    taken : (o : Option ℕ) (u : Bool) → or_found (lowest_of o u i) f ≡ or_found o (pick_found u (Some i) f)
+    taken (Some j) u = refl
+    taken None true = refl
+    taken None false = refl
 
 abbrev pick_bool : Bool → Bool → Bool → Bool
 pick_bool true a b = a
@@ -147,24 +148,3 @@ module _ (key number view : ℕ) where
         conflict = conflict_from cs 0 no_look i;
         newest = newest_from cs 0 no_look i;
       }
-
--- no cell of words below 2 ^ 32 is of the last key
-none_of_last : (ws : List ℕ) → ((k : ℕ) → get_or ws k 0 < 2 ^ 32) → (k : ℕ)
-    → of_key 4_294_967_295 (get_or (cells_of ws) k no_cell) ≡ false
-none_of_last ws h k = here (ltb k (length ws / 4)) refl
-  where
-    here : (t : Bool) → ltb k (length ws / 4) ≡ t → of_key 4_294_967_295 (get_or (cells_of ws) k no_cell) ≡ false
-    here true e =
-        sym (ap (of_key 4_294_967_295) (cell_read ws k (ltb-true _ _ e)))
-        ∙ ne_eqb (get_or ws (4 * k) 0) 4_294_967_296 (λ q. omega (arith, h (4 * k)))
-    here false e =
-        let past : length (cells_of ws) ≤ k = omega (arith, length_cells ws, ltb-false k (length ws / 4) e) in
-        ap (of_key 4_294_967_295) (get_or-eq_default (cells_of ws) no_cell past)
-
--- so nothing is seen of it
-pub look_last : (ws : List ℕ) (number view : ℕ) → ((k : ℕ) → get_or ws k 0 < 2 ^ 32)
-    → no_look ≡ look_of 4_294_967_295 number view (cells_of ws)
-look_last ws number view h =
-    sym (look_skip 4_294_967_295 number view no_look (cells_of ws) 0 (length ws / 4) (omega arith) (λ k l g. none_of_last ws h k)
-    ∙ look_end 4_294_967_295 number view no_look ws (length ws / 4) (omega arith))
-    ∙ look_is 4_294_967_295 number view (cells_of ws)

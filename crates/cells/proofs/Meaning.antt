@@ -18,9 +18,8 @@ use native.Mathlib.Omega.{arith}
 use borrow.Author.Tests.{ltb-true, ltb-false}
 use lib.ListN.{length, get_or}
 use lib.Dec.{ltb, leb}
+use Rattle.std.specs.Prelude.{Option}
 use Rattle.cells.specs.declared.Cell.{Cell}
-use Rattle.cells.specs.declared.Found.{Found}
-use Rattle.cells.specs.declared.Found.TheVariants.{At, Nothing}
 use Rattle.cells.specs.Cells.{no_cell, empty, of_key, committed, seen_by}
 use Rattle.cells.specs.Rules.{pick_found, pick_cell, lowest_from, has_cell, newest, mine, own_at, visible, newest_seen}
 use Rattle.cells.proofs.Tests.{and_left, and_right}
@@ -64,9 +63,9 @@ module _ (p : Cell → Bool) where
     pub first : (k : ℕ) → k < at → p (get_or cs k no_cell) ≡ true → (get_or cs k no_cell).commit < r.commit
 
   -- the right answer to "which is the lowest cell that passes"
-  abbrev pub LowestIs : List Cell → Found → Type 0
-  LowestIs cs (At i) = Lowest cs i
-  LowestIs cs Nothing = None cs
+  abbrev pub LowestIs : List Cell → Option ℕ → Type 0
+  LowestIs cs (Option.Some i) = Lowest cs i
+  LowestIs cs Option.None = None cs
 
   -- the right answer to "does a cell pass"
   abbrev pub HasIs : List Cell → Bool → Type 0
@@ -89,8 +88,8 @@ module _ (p : Cell → Bool) where
     lowest : Lowest cs at
 
   from_turn : (c : Cell) (cs : List Cell) (n i : ℕ) (t : Bool) → p c ≡ t
-      → pick_found t (At n) (lowest_from (n + 1) p cs) ≡ At i
-      → (lowest_from (n + 1) p cs ≡ At i → From (n + 1) i cs)
+      → pick_found t (Option.Some n) (lowest_from (n + 1) p cs) ≡ Option.Some i
+      → (lowest_from (n + 1) p cs ≡ Option.Some i → From (n + 1) i cs)
       → From n i (c ∷ cs)
   from_turn c cs n i true e q f =
       let s : n ≡ i = cc in
@@ -112,47 +111,47 @@ module _ (p : Cell → Bool) where
             };
       }
 
-  lowest_from_lem : (n : ℕ) (cs : List Cell) (i : ℕ) → lowest_from n p cs ≡ At i → From n i cs
+  lowest_from_lem : (n : ℕ) (cs : List Cell) (i : ℕ) → lowest_from n p cs ≡ Option.Some i → From n i cs
   unfolding lowest_from
   lowest_from_lem n [] i e = let z : ◌≡◌ {A = ℕ} 0 1 = cc in absurd (omega arith)
   lowest_from_lem n (c ∷ cs) i e = from_turn c cs n i (p c) refl e (lowest_from_lem (n + 1) cs i)
 
   none_turn : (c : Cell) (cs : List Cell) (n : ℕ) (t : Bool) → p c ≡ t
-      → pick_found t (At n) (lowest_from (n + 1) p cs) ≡ Nothing
-      → (lowest_from (n + 1) p cs ≡ Nothing → None cs)
+      → pick_found t (Option.Some n) (lowest_from (n + 1) p cs) ≡ Option.None
+      → (lowest_from (n + 1) p cs ≡ Option.None → None cs)
       → None (c ∷ cs)
   none_turn c cs n true e q f = let z : ◌≡◌ {A = ℕ} 0 1 = cc in absurd (omega arith)
   none_turn c cs n false e q f = none_more c cs e (f q)
 
-  none_from : (n : ℕ) (cs : List Cell) → lowest_from n p cs ≡ Nothing → None cs
+  none_from : (n : ℕ) (cs : List Cell) → lowest_from n p cs ≡ Option.None → None cs
   unfolding lowest_from
   none_from n [] e = λ k h. absurd (omega arith)
   none_from n (c ∷ cs) e = none_turn c cs n (p c) refl e (none_from (n + 1) cs)
 
-  pub lowest_found : (cs : List Cell) (i : ℕ) → lowest_from 0 p cs ≡ At i → Lowest cs i
+  pub lowest_found : (cs : List Cell) (i : ℕ) → lowest_from 0 p cs ≡ Option.Some i → Lowest cs i
   lowest_found cs i e =
       let m = lowest_from_lem 0 cs i e in
       let s : m.at ≡ i = omega (arith, m.place) in
       rw s at m.lowest
 
-  pub lowest_none : (cs : List Cell) → lowest_from 0 p cs ≡ Nothing → None cs
+  pub lowest_none : (cs : List Cell) → lowest_from 0 p cs ≡ Option.None → None cs
   lowest_none cs e = none_from 0 cs e
 
-  lowest_is : (cs : List Cell) (f : Found) → lowest_from 0 p cs ≡ f → LowestIs cs f
-  lowest_is cs (At i) e = lowest_found cs i e
-  lowest_is cs Nothing e = lowest_none cs e
+  lowest_is : (cs : List Cell) (f : Option ℕ) → lowest_from 0 p cs ≡ f → LowestIs cs f
+  lowest_is cs (Option.Some i) e = lowest_found cs i e
+  lowest_is cs Option.None e = lowest_none cs e
 
   pub lowest_means : (cs : List Cell) → LowestIs cs (lowest_from 0 p cs)
   lowest_means cs = lowest_is cs (lowest_from 0 p cs) refl
 
-  lowest_same : (cs : List Cell) (f g : Found) → LowestIs cs f → LowestIs cs g → f ≡ g
-  lowest_same cs (At i) (At j) a b =
-      ap At (same_number i j (λ h. clash a.passes (b.first i h)) (λ h. clash b.passes (a.first j h)))
-  lowest_same cs (At i) Nothing a b = absurd (clash a.passes (b i a.inside))
-  lowest_same cs Nothing (At j) a b = absurd (clash b.passes (a j b.inside))
-  lowest_same cs Nothing Nothing a b = refl
+  lowest_same : (cs : List Cell) (f g : Option ℕ) → LowestIs cs f → LowestIs cs g → f ≡ g
+  lowest_same cs (Option.Some i) (Option.Some j) a b =
+      ap Option.Some (same_number i j (λ h. clash a.passes (b.first i h)) (λ h. clash b.passes (a.first j h)))
+  lowest_same cs (Option.Some i) Option.None a b = absurd (clash a.passes (b i a.inside))
+  lowest_same cs Option.None (Option.Some j) a b = absurd (clash b.passes (a j b.inside))
+  lowest_same cs Option.None Option.None a b = refl
 
-  pub lowest_only : (cs : List Cell) (f : Found) → LowestIs cs f → f ≡ lowest_from 0 p cs
+  pub lowest_only : (cs : List Cell) (f : Option ℕ) → LowestIs cs f → f ≡ lowest_from 0 p cs
   lowest_only cs f a = lowest_same cs f (lowest_from 0 p cs) a (lowest_means cs)
 
   -- has a cell
@@ -311,10 +310,10 @@ module _ (key view : ℕ) where
   seen_only cs r a = newest_only (visible key view) visible_numbered cs r a
 
 module _ (key number : ℕ) where
-  pub own_found : (cs : List Cell) (i : ℕ) → own_at key number cs ≡ At i → Lowest (mine key number) cs i
+  pub own_found : (cs : List Cell) (i : ℕ) → own_at key number cs ≡ Option.Some i → Lowest (mine key number) cs i
   unfolding own_at
   own_found cs i e = lowest_found (mine key number) cs i e
 
-  pub own_none : (cs : List Cell) → own_at key number cs ≡ Nothing → None (mine key number) cs
+  pub own_none : (cs : List Cell) → own_at key number cs ≡ Option.None → None (mine key number) cs
   unfolding own_at
   own_none cs e = lowest_none (mine key number) cs e

@@ -8,8 +8,8 @@ use mathlib.Core.Bool.{Bool, true, false}
 use mathlib.Core.List.{List, [], ◌∷◌, map}
 use Prim.Native.Nat.{ℕ, ◌+◌, ◌/◌, ◌≤◌, ◌<◌}
 use lib.ListN.{length, get_or, set, drop, drop_of_length-le}
+use Rattle.std.specs.Prelude.{Some, None}
 use Rattle.cells.specs.declared.Cell.{Cell}
-use Rattle.cells.specs.declared.Found.TheVariants.{At, Nothing}
 use Rattle.cells.specs.Cells.{no_cell, cells_of, with_cells}
 use Rattle.cells.specs.Rules.{lowest_from, has_cell}
 use Rattle.cells.proofs.Laws.{drop_next, map_to, map_to_at, map_to_next, map_to_all, map_to_none}
@@ -24,7 +24,7 @@ module _ (ws : List ℕ) (i : ℕ) (h : i < length ws / 4) where
   cells_next = drop_next (cells_of ws) i no_cell in_cells
 
   module _ (p : Cell → Bool) where
-    pub lowest_here : p (get_or (cells_of ws) i no_cell) ≡ true → lowest_from i p (drop i (cells_of ws)) ≡ At i
+    pub lowest_here : p (get_or (cells_of ws) i no_cell) ≡ true → lowest_from i p (drop i (cells_of ws)) ≡ Some i
     unfolding lowest_from
     lowest_here e = rw (cells_next, e)
 
@@ -66,7 +66,7 @@ module _ (ws : List ℕ) (i : ℕ) (h : length ws / 4 ≤ i) where
   pub cells_end : drop i (cells_of ws) ≡ []
   cells_end = drop_of_length-le (cells_of ws) past_cells_lem
 
-  pub lowest_end : (p : Cell → Bool) → lowest_from i p (drop i (cells_of ws)) ≡ Nothing
+  pub lowest_end : (p : Cell → Bool) → lowest_from i p (drop i (cells_of ws)) ≡ None
   unfolding lowest_from
   lowest_end p = rw cells_end
 

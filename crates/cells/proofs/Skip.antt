@@ -15,15 +15,10 @@ use lib.ListN.{length, get_or, drop, drop_of_length-le}
 use Rattle.cells.specs.declared.Cell.{Cell}
 use Rattle.cells.specs.Cells.{no_cell, cells_of, with_cells, empty, own, committed}
 use Rattle.cells.specs.Rules.{has_cell, between}
-use Rattle.cells.specs.Search.{part_of, part_is, four_have, NextAt}
+use Rattle.cells.specs.Search.{Leaves, four_have, NextAt}
 use Rattle.cells.proofs.Tests.{or_left, or_right}
 use Rattle.cells.proofs.Laws.{drop_next, map_to, map_to_later, map_to_skip}
 use Rattle.cells.proofs.Words.{cells_with}
-
--- what a test of a cell's part said, of what the cell equals
-pub part_told : (number : Bool) (word : ℕ) {c x : Cell} {r : ℕ} {t : Bool} → c ≡ x → r ≡ part_of number c → eqb r word ≡ t
-    → part_is number word x ≡ t
-part_told number word e a h = sym (ap (part_is number word) e) ∙ sym (ap (λ (m : ℕ). eqb m word) a) ∙ h
 
 -- the cell of a number from `from` on does not pass
 abbrev pub Passed : (Cell → Bool) → List Cell → ℕ → ℕ → Type 0
@@ -86,24 +81,23 @@ module _ (p q : Cell → Bool) (only : (c : Cell) → q c ≡ false → p c ≡ 
   unfolding has_cell
   has_over i c l e = ap (λ (t : Bool). t || has_cell p l) (only c e)
 
-  pub has_skip : (cs : List Cell) (i r : ℕ) → i ≤ r → ((k : ℕ) → k < r → Passed q cs i k)
-      → has_cell p (drop i cs) ≡ has_cell p (drop r cs)
-  has_skip cs = skip (λ i l. has_cell p l) q has_over (λ i j. refl) cs
+  pub has_skip : (cs : List Cell) (i r : ℕ) → NextAt q i cs r → has_cell p (drop i cs) ≡ has_cell p (drop r cs)
+  has_skip cs i r told = skip (λ i l. has_cell p l) q has_over (λ i j. refl) cs i r told.onward told.passed
 
 -- only cells of its first word come between a cell and a view
-pub between_other : (c : Cell) (view : ℕ) (d : Cell) → part_is false c.word d ≡ false → between c view d ≡ false
+pub between_other : (c : Cell) (view : ℕ) (d : Cell) → eqb d.word c.word ≡ false → between c view d ≡ false
 between_other c view d e = ap (λ (t : Bool). t && committed d && ltb c.commit d.commit && leb d.commit view) e
 
 -- a cell with another number is not own
-pub other_not_own : (number : ℕ) (c : Cell) → part_is true number c ≡ false → own number c ≡ false
+pub other_not_own : (number : ℕ) (c : Cell) → eqb c.number number ≡ false → own number c ≡ false
 other_not_own number c e =
     let held = not (empty c) && eqb c.commit 0 in
     ap (λ (t : Bool). held && t) e ∙ and-false held
 
-module _ (f : Cell → Cell) (number : ℕ) (stays : (c : Cell) → part_is true number c ≡ false → f c ≡ c) (ws : List ℕ) where
+module _ (f : Cell → Cell) (number : ℕ) (stays : Leaves number f) (ws : List ℕ) where
   -- from cell i on to the next one with the number nothing is to be changed
   pub to_over : (now : List ℕ) (i r : ℕ) → now ≡ with_cells ws (map_to i f (cells_of ws))
-      → NextAt (part_is true number) i (cells_of now) r
+      → NextAt (λ c. eqb c.number number) i (cells_of now) r
       → now ≡ with_cells ws (map_to r f (cells_of ws))
   to_over now i r e told =
       let cs = cells_of ws in
@@ -114,4 +108,4 @@ module _ (f : Cell → Cell) (number : ℕ) (stays : (c : Cell) → part_is true
       e
       ∙ ap (with_cells ws)
       (map_to_skip i r f cs no_cell told.onward
-      (λ k a b. stays (get_or cs k no_cell) (sym (ap (part_is true number) (same k b)) ∙ told.passed k a b)))
+      (λ k a b. stays (get_or cs k no_cell) (sym (ap (λ (c : Cell). eqb c.number number) (same k b)) ∙ told.passed k a b)))

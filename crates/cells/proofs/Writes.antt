@@ -1,5 +1,6 @@
 -- What the writes do, cell by cell and word by word.
 --     stamped_.., wiped_..       an own cell, and any other cell, that is stamped or wiped
+--     stamp_leaves, wipe_leaves  a cell with another number
 --     stamp_at, wipe_at          each cell after every own cell is stamped or wiped
 --     length_map_cells, length_put     the lent words stay as many
 --     put_other                  where one cell is written whole, every other word stays
@@ -15,6 +16,8 @@ use lib.Seq.{get_or-set_other}
 use Rattle.cells.specs.declared.Cell.{Cell}
 use Rattle.cells.specs.Cells.{no_cell, cells_of, with_cells, count_of, own}
 use Rattle.cells.specs.Rules.{pick_cell, stamped, wiped}
+use Rattle.cells.specs.Search.{Leaves}
+use Rattle.cells.proofs.Skip.{other_not_own}
 use Rattle.cells.proofs.Words.{length_same, cell_write, set4}
 
 -- what a choice by a test comes to
@@ -40,6 +43,13 @@ module _ (number : ℕ) (c : Cell) where
 
     pub stamped_other : own number c ≡ false → stamped number commit c ≡ c
     stamped_other e = pick_false marked c e
+
+-- a cell with another number stays as it is
+pub wipe_leaves : (number : ℕ) → Leaves number (wiped number)
+wipe_leaves number c e = wiped_other number c (other_not_own number c e)
+
+pub stamp_leaves : (number commit : ℕ) → Leaves number (stamped number commit)
+stamp_leaves number commit c e = stamped_other number c commit (other_not_own number c e)
 
 module _ (cs : List Cell) (i : ℕ) where
   pub wipe_at : (number : ℕ) → get_or (map (wiped number) cs) i no_cell ≡ wiped number (get_or cs i no_cell)

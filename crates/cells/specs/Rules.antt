@@ -1,14 +1,12 @@
 -- What a scan of the cells finds, and what a step writes in them.
 -- Assumes nothing.
-use Rattle.std.specs.Prelude.{Bool, true, false, not, ◌&&◌, ◌||◌, List, [], ◌∷◌, ℕ, ◌+◌, eqb, ltb, leb}
+use Rattle.std.specs.Prelude.{Bool, true, false, not, ◌&&◌, ◌||◌, List, [], ◌∷◌, ℕ, ◌+◌, eqb, ltb, leb, Option, Some, None}
 use Rattle.cells.specs.declared.Cell.{Cell}
-use Rattle.cells.specs.declared.Found.{Found}
-use Rattle.cells.specs.declared.Found.TheVariants.{At, Nothing}
 use Rattle.cells.specs.declared.Looked.{Looked}
 use Rattle.cells.specs.Cells.{no_cell, own, foreign, committed, of_key, seen_by}
 
 -- the first where the test passes, otherwise the second
-abbrev pub pick_found : Bool → Found → Found → Found
+abbrev pub pick_found : Bool → Option ℕ → Option ℕ → Option ℕ
 pick_found true a b = a
 pick_found false a b = b
 
@@ -18,9 +16,9 @@ pick_cell true a b = a
 pick_cell false a b = b
 
 -- the lowest cell that passes a test, of cells that are numbered from i
-unfoldable pub lowest_from : ℕ → (Cell → Bool) → List Cell → Found
-lowest_from i p [] = Nothing
-lowest_from i p (c ∷ cs) = pick_found (p c) (At i) (lowest_from (i + 1) p cs)
+unfoldable pub lowest_from : ℕ → (Cell → Bool) → List Cell → Option ℕ
+lowest_from i p [] = None
+lowest_from i p (c ∷ cs) = pick_found (p c) (Some i) (lowest_from (i + 1) p cs)
 
 -- whether a cell passes a test
 unfoldable pub has_cell : (Cell → Bool) → List Cell → Bool
@@ -37,7 +35,7 @@ abbrev pub mine : ℕ → ℕ → Cell → Bool
 mine key number c = of_key key c && own number c
 
 -- the lowest own cell of the key
-unfoldable pub own_at : ℕ → ℕ → List Cell → Found
+unfoldable pub own_at : ℕ → ℕ → List Cell → Option ℕ
 own_at key number cs = lowest_from 0 (mine key number) cs
 
 -- a foreign cell of the key that has the given number

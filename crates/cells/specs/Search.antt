@@ -1,21 +1,18 @@
 -- What the quick scans are made of. No promise speaks of these: each scan is proved equal to its rule in Rules.
 -- Assumes nothing.
-use Rattle.std.specs.Prelude.{◌≡◌, Bool, true, false, ◌&&◌, ◌||◌, List, [], ◌∷◌, ℕ, ◌+◌, ◌≤◌, ◌<◌, eqb, ltb, length, get_or}
+use Rattle.std.specs.Prelude.{◌≡◌, Bool, true, false, ◌&&◌, ◌||◌, List, [], ◌∷◌, ℕ, ◌+◌, ◌≤◌, ◌<◌, eqb, ltb, length, get_or, max, Option, Some, None}
 use Rattle.cells.specs.declared.Cell.{Cell}
-use Rattle.cells.specs.declared.Found.{Found}
-use Rattle.cells.specs.declared.Found.TheVariants.{At, Nothing}
 use Rattle.cells.specs.declared.Looked.{Looked}
 use Rattle.cells.specs.Cells.{no_cell, of_key, own, foreign, seen_by}
 use Rattle.cells.specs.Rules.{pick_found, pick_cell, clashes}
 
--- a cell's transaction number, or its first word
-abbrev pub part_of : Bool → Cell → ℕ
-part_of true c = c.number
-part_of false c = c.word
+-- each call of a closure gives what h gives
+abbrev pub Gives : {R : Type 0} → (Cell → R → Type 0) → (Cell → R) → Type 0
+Gives {R} post h = (c : Cell) (r : R) → post c r → r ≡ h c
 
--- that part is this word
-abbrev pub part_is : Bool → ℕ → Cell → Bool
-part_is number word c = eqb (part_of number c) word
+-- a change leaves every cell with another number as it is
+abbrev pub Leaves : ℕ → (Cell → Cell) → Type 0
+Leaves number f = (c : Cell) → eqb c.number number ≡ false → f c ≡ c
 
 -- one of four cells from i on passes a test
 abbrev pub four_have : (Cell → Bool) → ℕ → List Cell → Bool
@@ -28,10 +25,15 @@ pub record NextAt (p : Cell → Bool) (from : ℕ) (cs : List Cell) (r : ℕ) : 
   pub passed : (k : ℕ) → k < r → from ≤ k → p (get_or cs k no_cell) ≡ false
   pub found : r < length cs → p (get_or cs r no_cell) ≡ true
 
+-- which is the first number from `from` on whose cell passes a test
+abbrev pub NextIs : (Cell → Bool) → ℕ → List Cell → Option ℕ → Type 0
+NextIs p from cs (Some r) = NextAt p from cs r
+NextIs p from cs None = NextAt p from cs (max from (length cs))
+
 -- the lowest so far, after cell i that passes the test or not
-abbrev pub lowest_of : Found → Bool → ℕ → Found
-lowest_of (At j) passes i = At j
-lowest_of Nothing passes i = pick_found passes (At i) Nothing
+abbrev pub lowest_of : Option ℕ → Bool → ℕ → Option ℕ
+lowest_of (Some j) passes i = Some j
+lowest_of None passes i = pick_found passes (Some i) None
 
 -- the newest that the view sees so far, after cell c
 abbrev pub newest_of : ℕ → Cell → Cell → Cell
@@ -39,7 +41,7 @@ newest_of view best c = pick_cell (seen_by view c && ltb best.commit c.commit) c
 
 -- nothing seen yet
 abbrev pub no_look : Looked
-no_look = record { own = Nothing; foreign = false; conflict = false; newest = no_cell }
+no_look = record { own = None; foreign = false; conflict = false; newest = no_cell }
 
 -- what is known after one more cell of the key
 abbrev pub look_turn : ℕ → ℕ → ℕ → Cell → Looked → Looked

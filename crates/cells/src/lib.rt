@@ -2,15 +2,16 @@
 
 #![tactic(auto)]
 
-ghost use Rattle.std.specs.Prelude.{◌≡◌, map, ◌+◌, ◌<◌, length, get_or, set};
+ghost use Rattle.std.specs.Prelude.{◌≡◌, Bool, map, ◌+◌, ◌<◌, ◌≤◌, length, get_or, set, IfSome};
+ghost use Rattle.cells.specs.declared.Cell.{Cell};
 ghost use Rattle.cells.specs.Cells.{no_cell, cells_of, with_cells, count_of, whole_cells};
 ghost use Rattle.cells.specs.Cells.{empty, of_key, committed, own, foreign, seen_by};
 ghost use Rattle.cells.specs.Rules.{foreign_with, has_cell, keeps, look_of};
 ghost use Rattle.cells.specs.Rules.{foreign_of, clashes, valued, stamped, wiped, newer, between};
-ghost use Rattle.cells.specs.Search.{part_of, part_is, four_have, NextAt, lowest_of, newest_of, no_look, look_turn};
+ghost use Rattle.cells.specs.Search.{Gives, Leaves, four_have, NextIs, newest_of, no_look, look_turn};
 ghost use Rattle.cells.specs.Tables.{raised, tops_of, any_cell, up_to, outdated_by, surpassed_in, held_in};
 
-#[derive(Clone, Copy)]
+#[derive(Clone, Copy, Debug, PartialEq, Eq)]
 pub struct Cell {
     pub word: u32,
     pub value: u32,
@@ -18,17 +19,10 @@ pub struct Cell {
     pub commit: u32,
 }
 
-// Where a scan found what it looked for: a cell's number, or nowhere.
-#[derive(Clone, Copy)]
-pub enum Found {
-    At(usize),
-    Nothing,
-}
-
 // What a read and an update ask of a key's cells.
-#[derive(Clone, Copy)]
+#[derive(Clone, Copy, Debug, PartialEq, Eq)]
 pub struct Looked {
-    pub own: Found,
+    pub own: Option<usize>,
     pub foreign: bool,
     pub conflict: bool,
     pub newest: Cell,
@@ -124,12 +118,7 @@ impl Cell {
     pub fn valued(self, value: u32) -> Cell
         ensures { result ≡ valued value self }
     {
-        Cell {
-            word: self.word,
-            value,
-            number: self.number,
-            commit: self.commit,
-        }
+        Cell { value, ..self }
     }
 
     // An own cell takes the commit number
@@ -137,12 +126,7 @@ impl Cell {
         ensures { result ≡ stamped number commit self }
     {
         if self.own(number) {
-            Cell {
-                word: self.word,
-                value: self.value,
-                number: self.number,
-                commit,
-            }
+            Cell { commit, ..self }
         } else {
             self
         }
@@ -235,14 +219,12 @@ pub fn kept(cells: &[u32], c: Cell, view: u32) -> bool
     if view < c.commit {
         return false;
     }
-    let n = count(cells);
-    let mut i = next(cells, 0, false, c.word);
-    while i < n {
-        let d = cell_at(cells, i);
-        if c.between(d, view) {
+    let mut from = 0;
+    while let Some(at) = next(cells, from, |d| d.word == c.word) {
+        if c.between(cell_at(cells, at), view) {
             return false;
         }
-        i = next(cells, i + 1, false, c.word);
+        from = at + 1;
     }
     true
 }
@@ -251,79 +233,60 @@ pub fn kept(cells: &[u32], c: Cell, view: u32) -> bool
 pub fn stamp(cells: &mut [u32], number: u32, commit: u32)
     ensures { cells.new ≡ with_cells cells.old (map (stamped number commit) (cells_of cells.old)) }
 {
-    let n = count(cells);
-    let mut at = next(cells, 0, true, number);
-    while at < n {
-        let c = cell_at(cells, at).stamped(number, commit);
-        put_cell(cells, at, c);
-        at = next(cells, at + 1, true, number);
-    }
+    change_own(cells, number, |c| c.stamped(number, commit));
 }
 
 // Every own cell becomes four zeros
 pub fn wipe(cells: &mut [u32], number: u32)
     ensures { cells.new ≡ with_cells cells.old (map (wiped number) (cells_of cells.old)) }
 {
-    let n = count(cells);
-    let mut i = next(cells, 0, true, number);
-    while i < n {
-        let c = cell_at(cells, i).wiped(number);
-        put_cell(cells, i, c);
-        i = next(cells, i + 1, true, number);
-    }
+    change_own(cells, number, |c| c.wiped(number));
 }
 
-impl Cell {
-    // The transaction number, or the first word
-    fn part(self, number: bool) -> u32
-        ensures { result ≡ part_of number self }
-    {
-        if number { self.number } else { self.word }
-    }
-}
-
-// Whether one of four cells from i on has this word for that part
-fn four_have(cells: &[u32], i: usize, number: bool, word: u32) -> bool
-    requires { i + 3 < count_of (length cells.now) }
-    ensures { result ≡ four_have (part_is number word) i (cells_of cells.now) }
+// Every cell with the number takes a change; one that leaves every other cell as it is has then changed all
+fn change_own<F: Fn(Cell) -> Cell>(cells: &mut [u32], number: u32, change: F)
+    requires { F.IsAlwaysCallable change }
+    ensures { (f : Cell → Cell) → Gives (F.post change) f → Leaves number f → cells.new ≡ with_cells cells.old (map f (cells_of cells.old)) }
 {
-    (cell_at(cells, i).part(number) == word)
-        | (cell_at(cells, i + 1).part(number) == word)
-        | (cell_at(cells, i + 2).part(number) == word)
-        | (cell_at(cells, i + 3).part(number) == word)
+    let mut from = 0;
+    while let Some(i) = next(cells, from, |c| c.number == number) {
+        let changed = change(cell_at(cells, i));
+        put_cell(cells, i, changed);
+        from = i + 1;
+    }
 }
 
-// The first cell from `from` on that has this word for that part, or the end: eight are looked at in one go
-fn next(cells: &[u32], from: usize, number: bool, word: u32) -> usize
-    ensures { NextAt (part_is number word) from (cells_of cells.now) result }
+// Whether one of four cells from i on passes
+fn four_have<F: Fn(Cell) -> bool>(cells: &[u32], i: usize, test: &F) -> bool
+    requires callable { F.IsAlwaysCallable test.now }
+    requires inside { i + 3 < count_of (length cells.now) }
+    ensures { (p : Cell → Bool) → Gives (F.post test.now) p → result ≡ four_have p i (cells_of cells.now) }
+{
+    test(cell_at(cells, i))
+        | test(cell_at(cells, i + 1))
+        | test(cell_at(cells, i + 2))
+        | test(cell_at(cells, i + 3))
+}
+
+// The first cell from `from` on that passes: eight are looked at in one go
+fn next<F: Fn(Cell) -> bool>(cells: &[u32], from: usize, test: F) -> Option<usize>
+    requires { F.IsAlwaysCallable test }
+    ensures inside { IfSome result (λ at. (from ≤ at) × (at < count_of (length cells.now))) }
+    ensures first { (p : Cell → Bool) → Gives (F.post test) p → NextIs p from (cells_of cells.now) result }
 {
     let n = count(cells);
     let mut i = from;
     while i < n {
-        if 8 <= n - i {
-            if !(four_have(cells, i, number, word) | four_have(cells, i + 4, number, word)) {
-                i += 8;
-                continue;
-            }
+        if 8 <= n - i && !(four_have(cells, i, &test) | four_have(cells, i + 4, &test)) {
+            i += 8;
+            continue;
         }
-        if cell_at(cells, i).part(number) == word {
-            return i;
+        if test(cell_at(cells, i)) {
+            return Some(i);
         }
         i += 1;
     }
-    i
-}
-
-impl Found {
-    // The lowest so far, after cell i that passes the test or not
-    fn lowest(self, passes: bool, i: usize) -> Found
-        ensures { result ≡ lowest_of self passes i }
-    {
-        match self {
-            Found::At(j) => Found::At(j),
-            Found::Nothing => { if passes { Found::At(i) } else { Found::Nothing } }
-        }
-    }
+    None
 }
 
 impl Cell {
@@ -344,13 +307,11 @@ impl Looked {
     fn none() -> Looked
         ensures { result ≡ no_look }
     {
-        let own = Found::Nothing;
-        let newest = Cell::none();
         Looked {
-            own: own,
+            own: None,
             foreign: false,
             conflict: false,
-            newest: newest,
+            newest: Cell::none(),
         }
     }
 
@@ -358,14 +319,11 @@ impl Looked {
     fn with(self, i: usize, c: Cell, number: u32, view: u32) -> Looked
         ensures { result ≡ look_turn number view i c self }
     {
-        let so_far = self.own;
-        let own = so_far.lowest(c.own(number), i);
-        let newest = c.newest_of(self.newest, view);
         Looked {
-            own: own,
+            own: self.own.or(c.own(number).then_some(i)),
             foreign: self.foreign | c.foreign(number),
             conflict: self.conflict | c.clashes(number, view),
-            newest: newest,
+            newest: c.newest_of(self.newest, view),
         }
     }
 }
@@ -375,15 +333,10 @@ pub fn look(cells: &[u32], key: u32, number: u32, view: u32) -> Looked
     ensures { result ≡ look_of key number view (cells_of cells.now) }
 {
     let mut seen = Looked::none();
-    if key == u32::MAX {
-        return seen;
-    }
-    let n = count(cells);
-    let mut i = next(cells, 0, false, key + 1);
-    while i < n {
-        let c = cell_at(cells, i);
-        seen = seen.with(i, c, number, view);
-        i = next(cells, i + 1, false, key + 1);
+    let mut from = 0;
+    while let Some(at) = next(cells, from, |c| c.of_key(key)) {
+        seen = seen.with(at, cell_at(cells, at), number, view);
+        from = at + 1;
     }
     seen
 }
@@ -392,7 +345,7 @@ pub fn look(cells: &[u32], key: u32, number: u32, view: u32) -> Looked
 pub const TOPS: usize = 257;
 
 // For each first word below TOPS the greatest commit number of its cells, of all of them and of those that a view sees
-#[derive(Clone, Copy)]
+#[derive(Clone, Copy, Debug, PartialEq, Eq)]
 pub struct Tops {
     pub all: [u32; TOPS],
     pub seen: [u32; TOPS],
@@ -429,10 +382,7 @@ pub fn tops_of(cells: &[u32], view: u32) -> Tops
             raise(&mut seen, w, c.commit);
         }
     }
-    Tops {
-        all: all,
-        seen: seen,
-    }
+    Tops { all, seen }
 }
 
 // Whether the cell's key has a committed cell with a number above the cell's, by the table where the first word is in it

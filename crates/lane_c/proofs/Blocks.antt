@@ -1,23 +1,27 @@
 -- Blocks of words, of any width: laws of lists that know nothing of places.
 --     length_blocks, block_at            how many blocks there are, and what stands in one
---     each_left, each_none               what the blocks left say to a test: the next one and then the rest, and at the end
---     take_next, take_whole              a turn that stores element i, and the end: the first elements are those wanted, all are
+--     blocks_std, each_std, made         what `as_chunks`, `all` and `from_fn` of std give
 --     length_written, blocks_written     values written one behind another: how many words they take, and that their blocks are theirs
 --     written_turn                       a turn that writes value i
 --     written_blocks                     what was read from blocks and is written again is the words
 --     reads_last, stores_last            words read, and stored, one by one to the end
 -- Assumes nothing.
-use mathlib.Core.Path.{◌≡◌, refl, sym, ap, ◌∙◌}
+use mathlib.Core.Path.{◌≡◌, refl, sym, ap, ◌∙◌, subst}
+use mathlib.Core.Logic.{⊎_elim}
 use mathlib.Core.Bool.{Bool, true, ◌&&◌}
 use mathlib.Core.List.{List, [], ◌∷◌, ◌++◌, map, flat_map, append_assoc, append-nil}
 use Prim.Native.Nat.{ℕ, zero, suc, ◌+◌, ◌*◌, ◌<◌, ◌≤◌}
-use native.Mathlib.Nat.{mul-suc, mul-zero}
+use native.Mathlib.Nat.{eq-or-lt_of_le, mul-suc, mul-zero}
 use native.Mathlib.Numerals.{add-one}
 use native.Mathlib.Omega.{arith}
-use lib.ListN.{length, get_or, set, take, drop, length-append, length-drop, drop_of_length-le}
-use lib.Seq.{take-suc, take-suc-set, take_all, take-add, take_at, drop_at, drop-drop, length-take-le, sets, sets-eq}
+use lib.ListN.{length, get_or, take, drop, length-append, length-drop, length-map, drop_of_length-le, get_or-map}
+use lib.Seq.{take_all, take-add, take_at, drop_at, drop-drop, length-take-le, sets, sets-eq}
+use Rattle.std.proofs.lemmas.List.{ext_get_or}
+use Rattle.std.specs.Array.{IsFromFnResult, IsFromFnResultFrom}
+use Rattle.std.specs.Fn.{Called, Mut}
+use Rattle.std.specs.List.{list_all}
+use Rattle.std.specs.Simd.{first_chunks}
 use Rattle.records.proofs.Bytes.{gets, part_gets}
-use Rattle.cells.proofs.Laws.{drop_next}
 use Rattle.steps.proofs.Tests.{and_left, and_right}
 use Rattle.lane_c.specs.Words.{blocks, each}
 
@@ -39,29 +43,34 @@ module _ (w : ℕ) where
       block_at n i (drop w l) d (omega arith)
       ∙ ap (λ (r : List ℕ). take w r) (drop-drop (w * i) w l ∙ ap (λ (k : ℕ). drop k l) (sym (next w i)))
 
-  -- a test of each
-  module _ (f : List ℕ → Bool) (n : ℕ) (l : List ℕ) where
-    pub each_left : (i : ℕ) {t : Bool} → i < n → f (take w (drop (w * i) l)) ≡ t
-        → each f (drop i (blocks w n l)) ≡ (t && each f (drop (i + 1) (blocks w n l)))
-    unfolding each
-    each_left i h e =
-        ap (each f) (drop_next (blocks w n l) i [] (omega (arith, length_blocks n l)))
-        ∙ ap (λ (t : Bool). t && each f (drop (i + 1) (blocks w n l))) (ap f (block_at n i l [] h) ∙ e)
+  -- blocks are what `as_chunks` of std gives, and a test of each is its `all`
+  pub blocks_std : (n : ℕ) (l : List ℕ) → first_chunks w n l ≡ blocks w n l
+  unfolding blocks
+  blocks_std zero l = refl
+  blocks_std (suc n) l = ap (λ (r : List (List ℕ)). take w l ∷ r) (blocks_std n (drop w l))
 
-    pub each_none : (i : ℕ) → n ≤ i → each f (drop i (blocks w n l)) ≡ true
-    unfolding each
-    each_none i h = ap (each f) (drop_of_length-le (blocks w n l) {i = i} (omega (arith, length_blocks n l)))
+pub each_std : (f : List ℕ → Bool) (l : List (List ℕ)) → list_all f l ≡ each f l
+unfolding each
+each_std f [] = refl
+each_std f (b ∷ bs) = ap (λ (t : Bool). f b && t) (each_std f bs)
 
--- values of a list, stored one by one
-module _ {A : Type 0} where
-  pub take_next : (l m : List A) (i : ℕ) (a d : A) → i < length l → i < length m → take i l ≡ take i m → a ≡ get_or m i d
-      → take (i + 1) (set l i a) ≡ take (i + 1) m
-  take_next l m i a d hl hm e f =
-      rw add-one
-      (take-suc-set l i a hl ∙ ap (λ (r : List A). r ++ (a ∷ [])) e ∙ ap (λ (x : A). take i m ++ (x ∷ [])) f ∙ sym (take-suc m i d hm))
+-- `array::from_fn` of std over the elements of a list, where a call leaves the closure as it is
+module _ {F A B : Type 0} (g : Mut F (ℕ × Unit {0}) B) (f : F) (ys : List B) (h : A → B) (xs : List A) (d : A) (len : ℕ)
+    (same : (i : ℕ) (y : B) (q : F) → i < len → Called g f (i, tt) y q → (q ≡ f) × (y ≡ h (get_or xs i d))) where
+  made_from : (n i k : ℕ) (p : F) → p ≡ f → IsFromFnResultFrom g p ys i n → i + n ≤ len → i ≤ k → k < i + n
+      → get_or ys k (h d) ≡ h (get_or xs k d)
+  made_from zero i k p e r top low high = absurd (omega arith)
+  made_from (suc n) i k p e (q, y, at, called, more) top low high =
+      let t : (q ≡ f) × (y ≡ h (get_or xs i d)) = same i y q (omega arith) (subst (λ (x : F). Called g x (i, tt) y q) e called) in
+      ⊎_elim
+      (λ here. ap (λ (j : ℕ). get_or ys j (h d)) (sym here) ∙ at.1 (h d) ∙ t.1 ∙ ap (λ (j : ℕ). h (get_or xs j d)) here)
+      (λ past. made_from n (i + 1) k q t.0 more (omega arith) (omega arith) (omega arith))
+      (eq-or-lt_of_le low)
 
-  pub take_whole : (l m : List A) (n : ℕ) → length l ≡ n → length m ≡ n → take n l ≡ take n m → l ≡ m
-  take_whole l m n hl hm e = sym (take_all n l (omega arith)) ∙ e ∙ take_all n m (omega arith)
+  pub made : length xs ≡ len → IsFromFnResult g f ys len → ys ≡ map h xs
+  made l r =
+      ext_get_or (h d) ys (map h xs) (r.long ∙ sym l ∙ sym (length-map xs h))
+      (λ k lt. made_from len 0 k f refl r.each (omega arith) (omega arith) (omega (arith, r.long)) ∙ sym (get_or-map h xs k d))
 
 -- values written one behind another, each in a block
 module _ {A : Type 0} (w : ℕ) (f : A → List ℕ) (wide : (a : A) → length (f a) ≡ w) where

@@ -4,14 +4,14 @@
 --     call_kept, serve_kept words that are a record are one afterwards too, and the cells are as many words as before
 --     step_on, serve_on_lem     the same of the words of a record, as equations of all that comes back
 -- Assumes nothing.
+use Rattle.std.specs.Prelude.{Option, Some, None, Err}
 use mathlib.Core.Path.{◌≡◌, refl, ap, ◌∙◌}
 use mathlib.Core.Bool.{Bool, true, cond}
 use mathlib.Core.List.{List}
 use Prim.Native.Nat.{ℕ}
 use lib.ListN.{length}
-use Rattle.records.specs.declared.Answer.{Answer}
+use Rattle.records.specs.declared.Refusal.{Refusal}
 use Rattle.records.specs.declared.Call.{Call}
-use Rattle.records.specs.declared.CallRead.{CallRead}
 use Rattle.steps.specs.declared.Board.{Board}
 use Rattle.steps.specs.Record.{all_places}
 use Rattle.steps.specs.Store.{Store, Outcome, lent}
@@ -54,24 +54,24 @@ module _ (ws cs : List ℕ) (w : well_formed ws ≡ true) where
   sixteen call = (keeps_lengths (store_of ws cs) call).1 ∙ places
 
   on_words : (call : Call) → step_on_words ws cs call ≡ outcome_words (step (store_of ws cs) call)
-  on_words call = ap (λ (t : Bool). cond t (outcome_words (step (store_of ws cs) call)) (refused_with Answer.Board ws cs)) w
+  on_words call = ap (λ (t : Bool). cond t (outcome_words (step (store_of ws cs) call)) (refused_with (Err Refusal.Board) ws cs)) w
 
-  pub call_is_step : (kind place key value : ℕ) (call : Call) → call_named kind place key value ≡ CallRead.Good call
+  pub call_is_step : (kind place key value : ℕ) (call : Call) → call_named kind place key value ≡ Some call
       → IsStep (step (store_of ws cs) call) (lane_call ws cs kind place key value)
   unfolding lane_call
   call_is_step kind place key value call n =
       let o = step (store_of ws cs) call in
-      let e : lane_call ws cs kind place key value ≡ outcome_words o = ap (λ (c : CallRead). on_named c ws cs) n ∙ on_words call in
+      let e : lane_call ws cs kind place key value ≡ outcome_words o = ap (λ (c : Option Call). on_named c ws cs) n ∙ on_words call in
       rw e (record { said = refl; store = ap (λ (b : Board). lent b o.store.words) (record_words_lem o.store.board (sixteen call)) })
 
   -- as many words, and a record still
   abbrev Keeps : Crossed → Type 0
   Keeps x = (well_formed x.words ≡ true) × (length x.cells ≡ length cs)
 
-  kept : (read : CallRead) → Keeps (on_named read ws cs)
-  kept (CallRead.Good call) =
+  kept : (read : Option Call) → Keeps (on_named read ws cs)
+  kept (Some call) =
       rw (on_words call) (well_words (step (store_of ws cs) call).store.board (sixteen call), (keeps_lengths (store_of ws cs) call).0)
-  kept CallRead.Record = (w, refl)
+  kept None = (w, refl)
 
   pub call_kept : (kind place key value : ℕ) → Keeps (lane_call ws cs kind place key value)
   unfolding lane_call

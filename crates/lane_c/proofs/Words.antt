@@ -2,7 +2,7 @@
 --     state_.., word_state              a state and its word
 --     wide, place_words_lem, words_place    a place and its words
 --     length_places, place_at_lem           the places that words are
---     span, length_at                   the words that the code takes for a place
+--     whole_blocks, well_by_..          the places that the code takes the words apart into, and its test of them
 --     save_turn, save_end               a turn, and the end, of writing a record
 --     numbers                           theorem: where the counts stand, and how many words there are, as lane.h has it
 --     open_inside, open_word            a place that is open is one of those there, and its state word is 1
@@ -12,15 +12,17 @@
 --     well_words, fresh_words_lem           theorems: the words of a record are well formed; zeros are the fresh record
 -- Assumes nothing.
 use mathlib.Core.Path.{◌≡◌, refl, sym, ap, ◌∙◌}
-use mathlib.Core.Bool.{true}
+use mathlib.Core.Bool.{Bool, true, ◌&&◌}
 use mathlib.Core.List.{List, [], ◌∷◌, ◌++◌, map, flat_map, append_assoc}
-use Prim.Native.Nat.{ℕ, zero, suc, ◌+◌, ◌*◌, ◌-◌, ◌<◌}
+use Prim.Native.Nat.{ℕ, zero, suc, ◌+◌, ◌*◌, ◌-◌, ◌/◌, ◌<◌}
 use native.Mathlib.Nat.{zero-add, suc-add}
 use native.Mathlib.Omega.{arith}
 use lib.Dec.{eqb, leb}
-use lib.ListN.{length, get_or, set, take, drop, replicate, length-append, length-drop, length-map, take-append-drop, get_or-map}
-use lib.Seq.{get_or-append-add, get_or-drop, get_or-take, length-take-le, take_all, sets}
-use borrow.Author.Tests.{leb-true, eqb-true, eq-eqb}
+use lib.ListN.{length, get_or, set, take, drop, replicate, length-append, length-map, take-append-drop, get_or-map}
+use lib.Seq.{get_or-append-add, get_or-drop, get_or-take, take_all, sets}
+use borrow.Author.Tests.{leb-true, eqb-true, eq-eqb, ne_eqb}
+use Rattle.std.specs.List.{list_all}
+use Rattle.std.specs.Simd.{first_chunks}
 use Rattle.steps.specs.declared.State.{State}
 use Rattle.steps.specs.declared.Place.{Place}
 use Rattle.steps.specs.declared.Board.{Board}
@@ -28,21 +30,15 @@ use Rattle.steps.specs.Record.{all_places, idle_place, in_state, fresh_board, pl
 use Rattle.records.proofs.Bytes.{gets}
 use Rattle.steps.proofs.Tests.{and_left, and_right}
 use Rattle.lane_c.specs.Words.{place_words, state_word_at, starts_at, commits_at, record_words, state_word, state_of}
-use Rattle.lane_c.specs.Words.{words_of_place, place_of_words, place_fits, words_at}
+use Rattle.lane_c.specs.Words.{words_of_place, place_of_words, place_fits}
 use Rattle.lane_c.specs.Words.{blocks, each, place_blocks, places_of, words_of_places, words_of_counts, record_of, words_of_record, well_formed}
-use Rattle.lane_c.proofs.Blocks.{length_blocks, block_at, length_written, blocks_written, written_turn, written_blocks, reads_last, stores_last}
+use Rattle.lane_c.proofs.Blocks.{length_blocks, block_at, blocks_std, each_std, length_written, blocks_written, written_turn, written_blocks, reads_last, stores_last}
 
 -- where the counts stand, and how many words there are
 pub numbers : (starts_at ≡ 48) × ((commits_at ≡ 49) × (record_words ≡ 50))
 numbers = (refl, (refl, refl))
 
--- the state of a word above 2, and of a word that is a state
-pub state_else : (n : ℕ) → (n ≡ 0 → ⊥) → (n ≡ 1 → ⊥) → (n ≡ 2 → ⊥) → State.Prepared ≡ state_of n
-state_else zero a b c = absurd (a refl)
-state_else (suc zero) a b c = absurd (b refl)
-state_else (suc (suc zero)) a b c = absurd (c refl)
-state_else (suc (suc (suc n))) a b c = refl
-
+-- the state of a word that is one
 state_word_lem : (s : State) → state_of (state_word s) ≡ s
 state_word_lem State.Idle = refl
 state_word_lem State.Open = refl
@@ -79,6 +75,10 @@ place_fits_lem p = state_fits p.state
 pub length_places : (ws : List ℕ) → length (places_of ws) ≡ all_places
 unfolding places_of
 length_places ws = length-map (place_blocks ws) place_of_words ∙ length_blocks place_words all_places ws
+
+-- the words of place p
+abbrev pub words_at : List ℕ → ℕ → List ℕ
+words_at ws p = take place_words (drop (state_word_at p) ws)
 
 pub place_at_lem : (ws : List ℕ) (i : ℕ) → i < all_places → get_or (places_of ws) i idle_place ≡ place_of_words (words_at ws i)
 unfolding places_of
@@ -126,13 +126,11 @@ state_set (p ∷ ps) past (suc i) s h =
     ∙ sym (set_behind (words_of_place p) (flat_map words_of_place ps ++ past) (state_word_at i) (state_word s))
     ∙ (λ j. set (sym (append_assoc (words_of_place p) (flat_map words_of_place ps) past) j) (sym far j) (state_word s))
 
--- how many words the code takes at a place, and that they are all there
-pub span : (i : ℕ) → state_word_at i + place_words - state_word_at i ≡ place_words
-span i = omega arith
-
-pub length_at : (ws : List ℕ) (i : ℕ) → length ws ≡ record_words → i < all_places → length (words_at ws i) ≡ place_words
-length_at ws i l h =
-    let left = drop (state_word_at i) ws in length-take-le place_words left (omega (arith, length-drop (state_word_at i) ws))
+-- the whole blocks in the words of a record are those of its places
+pub whole_blocks : (ws : List ℕ) → length ws ≡ record_words → first_chunks place_words (length ws / place_words) ws ≡ place_blocks ws
+whole_blocks ws l =
+    let all : length ws / place_words ≡ all_places = omega arith in
+    ap (λ (n : ℕ). first_chunks place_words n ws) all ∙ blocks_std place_words all_places ws
 
 pub length_words : (ps : List Place) → length (words_of_places ps) ≡ place_words * length ps
 unfolding words_of_places
@@ -194,6 +192,19 @@ module _ (l : List ℕ) (long : length l ≡ record_words) (b : Board) (full : l
 pub well_length : (ws : List ℕ) → well_formed ws ≡ true → length ws ≡ record_words
 unfolding well_formed
 well_length ws h = eqb-true (length ws) record_words (and_left (eqb (length ws) record_words) (each place_fits (place_blocks ws)) h)
+
+-- as the code tests it: the length, and then each place's words
+pub well_by_length : (ws : List ℕ) → (length ws ≡ record_words → ⊥) → eqb (length ws) record_words ≡ well_formed ws
+unfolding well_formed
+well_by_length ws n = rw (ne_eqb (length ws) record_words n)
+
+pub well_by_places : (ws : List ℕ) → length ws ≡ record_words
+    → list_all place_fits (first_chunks place_words (length ws / place_words) ws) ≡ well_formed ws
+unfolding well_formed
+well_by_places ws l =
+    each_std place_fits (first_chunks place_words (length ws / place_words) ws)
+    ∙ ap (each place_fits) (whole_blocks ws l)
+    ∙ ap (λ (t : Bool). t && each place_fits (place_blocks ws)) (sym (eq-eqb (length ws) record_words l))
 
 -- the words of the record of well formed words are the words
 pub words_record : (ws : List ℕ) → well_formed ws ≡ true → words_of_record (record_of ws) ≡ ws

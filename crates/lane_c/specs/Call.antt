@@ -1,22 +1,22 @@
 -- One call over words: what C and Rust hand in, and what comes back.
 -- Assumes nothing.
-use Rattle.std.specs.Prelude.{cond, List, [], ◌∷◌, ℕ, ◌/◌, ◌%◌, get_or}
-use Rattle.records.specs.declared.Answer.{Answer}
+use Rattle.std.specs.Prelude.{cond, List, [], ◌∷◌, ℕ, ◌/◌, ◌%◌, get_or, Option, Some, None, Err}
 use Rattle.records.specs.declared.Call.{Call}
-use Rattle.records.specs.declared.CallRead.{CallRead}
+use Rattle.records.specs.declared.Refusal.{Refusal}
+use Rattle.records.specs.Answers.{Answer}
 use Rattle.steps.specs.Store.{Store, Said, Outcome, lent, said_of}
 use Rattle.steps.specs.Step.{step}
 use Rattle.lane_c.specs.Words.{record_of, words_of_record, well_formed}
 
 -- kind (1 start, 2 read, 3 update, 4 prepare, 5 commit, 6 rollback); key and value are ignored where the kind has none
-abbrev pub call_named : ℕ → ℕ → ℕ → ℕ → CallRead
+abbrev pub call_named : ℕ → ℕ → ℕ → ℕ → Option Call
 call_named kind place key value =
     get_or
-    (CallRead.Record ∷ (CallRead.Good (Call.Start place) ∷ (CallRead.Good (Call.Read place key) ∷
-    (CallRead.Good (Call.Update place key value) ∷ (CallRead.Good (Call.Prepare place) ∷
-    (CallRead.Good (Call.Commit place) ∷ (CallRead.Good (Call.Rollback place) ∷ [])))))))
+    (None ∷ (Some (Call.Start place) ∷ (Some (Call.Read place key) ∷
+    (Some (Call.Update place key value) ∷ (Some (Call.Prepare place) ∷
+    (Some (Call.Commit place) ∷ (Some (Call.Rollback place) ∷ [])))))))
     kind
-    CallRead.Record
+    None
 
 -- the upper 32 bits of a 64-bit word
 abbrev pub upper : ℕ → ℕ
@@ -50,12 +50,12 @@ store_of ws cs = lent (record_of ws) cs
 
 -- a record of other than 50 words or with a state word above 3 is 1 BOARD; otherwise the call does its step
 abbrev pub step_on_words : List ℕ → List ℕ → Call → Crossed
-step_on_words ws cs call = cond (well_formed ws) (outcome_words (step (store_of ws cs) call)) (refused_with Answer.Board ws cs)
+step_on_words ws cs call = cond (well_formed ws) (outcome_words (step (store_of ws cs) call)) (refused_with (Err Refusal.Board) ws cs)
 
 -- a kind other than 1 to 6 is 12 RECORD, before anything else
-abbrev pub on_named : CallRead → List ℕ → List ℕ → Crossed
-on_named (CallRead.Good call) ws cs = step_on_words ws cs call
-on_named CallRead.Record ws cs = refused_with Answer.Record ws cs
+abbrev pub on_named : Option Call → List ℕ → List ℕ → Crossed
+on_named (Some call) ws cs = step_on_words ws cs call
+on_named None ws cs = refused_with (Err Refusal.Record) ws cs
 
 -- lane_call
 unfoldable pub lane_call : List ℕ → List ℕ → ℕ → ℕ → ℕ → ℕ → Crossed

@@ -50,10 +50,6 @@ place_of_words ws = record { state = state_of (get_or ws 0 0); number = get_or w
 abbrev pub place_fits : List ℕ → Bool
 place_fits ws = leb (get_or ws 0 0) 3
 
--- the words of place p
-abbrev pub words_at : List ℕ → ℕ → List ℕ
-words_at ws p = take place_words (drop (state_word_at p) ws)
-
 -- so many blocks of so many words, one behind another
 unfoldable pub blocks : ℕ → ℕ → List ℕ → List (List ℕ)
 blocks width zero ws = []

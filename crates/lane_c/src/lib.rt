@@ -2,21 +2,21 @@
 
 #![tactic(auto)]
 
-ghost use Rattle.std.specs.Prelude.{◌≡◌, ◌<◌, length};
+ghost use Rattle.std.specs.Prelude.{◌≡◌, length};
 ghost use Rattle.records.specs.Answers.{number_of, value_of};
 ghost use Rattle.lane_c.specs.Call.{call_named, upper, lower, crossed, step_on_words, lane_call};
 ghost use Rattle.lane_c.specs.Serve.{why_of, handed, lane_serve};
-ghost use Rattle.steps.specs.Record.{all_places};
-ghost use Rattle.lane_c.specs.Words.{place_words, record_words, state_word, state_of, words_of_place, place_of_words, place_fits};
-ghost use Rattle.lane_c.specs.Words.{words_at, record_of, words_of_record, well_formed};
+ghost use Rattle.lane_c.specs.Words.{record_words, state_word, state_of, words_of_place, place_of_words, place_fits};
+ghost use Rattle.lane_c.specs.Words.{record_of, words_of_record, well_formed};
 
 use lanes::Stop;
-use records::{Answer, Call, CallRead};
+use records::{Answer, Call, Refusal};
+use std::array;
 use steps::{Board, Place, State};
 
 // How far `lane_serve` got: bytes of calls taken, bytes of answers written, and why it stopped.
 #[repr(C)]
-#[derive(Clone, Copy)]
+#[derive(Clone, Copy, Debug, PartialEq, Eq)]
 pub struct LaneServed {
     pub taken: u64,
     pub written: u64,
@@ -34,11 +34,9 @@ const COMMITS: usize = STARTS + 1;
 // All words of a record.
 const WORDS: usize = COMMITS + 1;
 
-// What one in the upper 32 bits counts.
-const UPPER: u64 = 4_294_967_296;
-
 // One call on a record held as words: the refusal number in the upper and the value in the lower 32 bits.
 #[unsafe(no_mangle)]
+#[tactic(auto, unfolding(crate::specs::Call::lane_call))]
 pub extern "C" fn lane_call(
     words: &mut [u32],
     cells: &mut [u32],
@@ -49,14 +47,15 @@ pub extern "C" fn lane_call(
 ) -> u64
     ensures { crossed result words.new cells.new ≡ lane_call words.old cells.old kind place key value }
 {
-    match call_named(kind, place, key, value) {
-        CallRead::Good(call) => step_on_words(words, cells, call),
-        CallRead::Record => answer_word(Answer::Record),
-    }
+    let Some(call) = call_named(kind, place, key, value) else {
+        return answer_word(Err(Refusal::Record));
+    };
+    step_on_words(words, cells, call)
 }
 
 // Call records answered one after another, on a record held as words.
 #[unsafe(no_mangle)]
+#[tactic(auto, using(crate::proofs::Words::well_length), unfolding(crate::specs::Serve::lane_serve))]
 pub extern "C" fn lane_serve(
     words: &mut [u32],
     cells: &mut [u32],
@@ -67,6 +66,7 @@ pub extern "C" fn lane_serve(
         ≡ lane_serve words.old cells.old calls.now answers.old }
 {
     if !well_formed(words) {
+        // A number of the C interface: 3 is BOARD.
         return LaneServed {
             taken: 0,
             written: 0,
@@ -74,55 +74,52 @@ pub extern "C" fn lane_serve(
         };
     }
     let before = load(words);
-    let done = lanes::serve(before, cells, calls, answers);
-    let board = done.board;
-    save(words, board);
-    let stop = done.stop;
+    let served = lanes::serve(before, cells, calls, answers);
+    save(words, served.board);
     LaneServed {
-        taken: done.taken as u64,
-        written: done.written as u64,
-        why: why_of(stop),
+        taken: served.taken as u64,
+        written: served.written as u64,
+        why: why_of(served.stop),
     }
 }
 
 // A call on a record held as words: BOARD where they are none, otherwise its step.
+#[tactic(auto, using(crate::proofs::Words::well_length))]
 fn step_on_words(words: &mut [u32], cells: &mut [u32], call: Call) -> u64
     ensures { crossed result words.new cells.new ≡ step_on_words words.old cells.old call }
 {
     if !well_formed(words) {
-        return answer_word(Answer::Board);
+        return answer_word(Err(Refusal::Board));
     }
     let before = load(words);
     let done = lanes::call(before, cells, call);
-    let after = done.board;
-    save(words, after);
-    let answer = done.answer;
-    answer_word(answer)
+    save(words, done.board);
+    answer_word(done.answer)
 }
 
-// The call that a kind names.
-fn call_named(kind: u32, place: u32, key: u32, value: u32) -> CallRead
+// The call that a kind names, a number of the C interface.
+fn call_named(kind: u32, place: u32, key: u32, value: u32) -> Option<Call>
     ensures { result ≡ call_named kind place key value }
 {
-    match kind {
-        1 => CallRead::Good(Call::Start { place }),
-        2 => CallRead::Good(Call::Read { place, key }),
-        3 => CallRead::Good(Call::Update { place, key, value }),
-        4 => CallRead::Good(Call::Prepare { place }),
-        5 => CallRead::Good(Call::Commit { place }),
-        6 => CallRead::Good(Call::Rollback { place }),
-        _ => CallRead::Record,
-    }
+    Some(match kind {
+        1 => Call::Start { place },
+        2 => Call::Read { place, key },
+        3 => Call::Update { place, key, value },
+        4 => Call::Prepare { place },
+        5 => Call::Commit { place },
+        6 => Call::Rollback { place },
+        _ => return None,
+    })
 }
 
 // An answer as one word: its number above its value.
 fn answer_word(a: Answer) -> u64
     ensures { (upper result ≡ number_of a) × (lower result ≡ value_of a) }
 {
-    (records::number(a) as u64) * UPPER + (records::value(a) as u64)
+    (u64::from(records::number(a)) << 32) | u64::from(records::value(a))
 }
 
-// The number of a reason to stop.
+// The number of a reason to stop. `Stop` and u32 are both other crates' types, so `From` cannot be written here.
 fn why_of(stop: Stop) -> u32
     ensures { result ≡ why_of stop }
 {
@@ -133,7 +130,7 @@ fn why_of(stop: Stop) -> u32
     }
 }
 
-// The word of a state.
+// The word of a state. `State` and u32 are both other crates' types, so `From` cannot be written here, nor `TryFrom` for the way back.
 fn state_word(state: State) -> u32
     ensures { result ≡ state_word state }
 {
@@ -158,58 +155,37 @@ fn state_of(word: u32) -> State
 }
 
 // The place of its words.
-fn place_of(block: &[u32]) -> Place
-    requires { length block.now ≡ place_words }
-    ensures { result ≡ place_of_words block.now }
+fn place_of(block: [u32; PLACE_WORDS]) -> Place
+    ensures { result ≡ place_of_words block }
 {
+    let [state, number, view] = block;
     Place {
-        number: block[1],
-        view: block[2],
-        state: state_of(block[0]),
+        state: state_of(state),
+        number,
+        view,
     }
 }
 
-// A place put into its words.
-fn put_place(block: &mut [u32], p: Place)
-    requires { length block.old ≡ place_words }
-    ensures { block.new ≡ words_of_place p }
+// The words of a place.
+fn words_of(p: Place) -> [u32; PLACE_WORDS]
+    ensures { result ≡ words_of_place p }
 {
-    let s = p.state;
-    block[0] = state_word(s);
-    block[1] = p.number;
-    block[2] = p.view;
+    [state_word(p.state), p.number, p.view]
 }
 
 // Whether words are a place: no state word above 3.
-fn place_fits(block: &[u32]) -> bool
-    requires { length block.now ≡ place_words }
+fn place_fits(block: &[u32; PLACE_WORDS]) -> bool
     ensures { result ≡ place_fits block.now }
 {
     block[0] <= 3
-}
-
-// The words of place i.
-fn words_at(words: &[u32], i: usize) -> &[u32]
-    requires { (i < all_places) × (length words.now ≡ record_words) }
-    ensures { (result.now ≡ words_at words.now i) × (length result.now ≡ place_words) }
-{
-    let at = PLACE_WORDS * i;
-    &words[at..at + PLACE_WORDS]
 }
 
 // Whether the words are a record: as many as a record is, and each place's are a place.
 fn well_formed(words: &[u32]) -> bool
     ensures { result ≡ well_formed words.now }
 {
-    if words.len() != WORDS {
-        return false;
-    }
-    for i in 0..Board::PLACES {
-        if !place_fits(words_at(words, i)) {
-            return false;
-        }
-    }
-    true
+    let (places, _) = words.as_chunks::<PLACE_WORDS>();
+    words.len() == WORDS && places.iter().all(|p| place_fits(p))
 }
 
 // The record from its words.
@@ -217,13 +193,9 @@ fn load(words: &[u32]) -> Board
     requires { length words.now ≡ record_words }
     ensures { result ≡ record_of words.now }
 {
-    let fresh = Board::fresh();
-    let mut places = fresh.places;
-    for i in 0..Board::PLACES {
-        places[i] = place_of(words_at(words, i));
-    }
+    let (places, _) = words.as_chunks::<PLACE_WORDS>();
     Board {
-        places: places,
+        places: array::from_fn(|i| place_of(places[i])),
         starts: words[STARTS],
         commits: words[COMMITS],
     }
@@ -234,10 +206,9 @@ fn save(words: &mut [u32], b: Board)
     requires { length words.old ≡ record_words }
     ensures { words.new ≡ words_of_record b }
 {
-    for i in 0..Board::PLACES {
-        let p = b.places[i];
+    for (i, p) in b.places.iter().enumerate() {
         let at = PLACE_WORDS * i;
-        put_place(&mut words[at..at + PLACE_WORDS], p);
+        words[at..at + PLACE_WORDS].copy_from_slice(&words_of(*p));
     }
     words[STARTS] = b.starts;
     words[COMMITS] = b.commits;

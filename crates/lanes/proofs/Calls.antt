@@ -4,6 +4,7 @@
 --     calls_in_stop    where one was none, nothing behind it is read
 --     run_replies     the answers of a run of calls and then another
 -- Assumes nothing.
+use Rattle.std.specs.Prelude.{Option, Some, None}
 use mathlib.Core.Path.{◌≡◌, refl, sym, ap, ◌∙◌}
 use mathlib.Core.List.{List, [], ◌∷◌, ◌++◌, append_assoc, map-append}
 use Prim.Native.Nat.{ℕ, zero, suc, ◌+◌, ◌*◌, ◌≤◌, ◌<◌, zero-le, suc-le-suc}
@@ -12,7 +13,6 @@ use native.Mathlib.Omega.{arith}
 use lib.ListN.{length, drop, length-drop}
 use lib.Seq.{drop-append-le, drop-drop}
 use Rattle.records.specs.declared.Call.{Call}
-use Rattle.records.specs.declared.CallRead.{CallRead}
 use Rattle.records.specs.declared.Reply.{Reply}
 use Rattle.records.specs.Format.{call_bytes, answer_record, call_at}
 use Rattle.records.proofs.RoundTrip.{calls}
@@ -33,9 +33,9 @@ calls_in_front (suc n) bs more h =
     ap (calls_in n) (drop-append-le call_bytes bs more long) ∙ calls_in_front n (drop call_bytes bs) more rest in
     λ i. read_then (calls.behind bs more 0 long i) (behind i)
 
-read_at_most : (r : CallRead) (calls : List Call) (n : ℕ) → length calls ≤ n → length (read_then r calls) ≤ suc n
-read_at_most (CallRead.Good c) calls n h = suc-le-suc h
-read_at_most CallRead.Record calls n h = zero-le
+read_at_most : (r : Option Call) (xs : List Call) (n : ℕ) → length xs ≤ n → length (read_then r xs) ≤ suc n
+read_at_most (Some c) xs n h = suc-le-suc h
+read_at_most None xs n h = zero-le
 
 -- no more calls than records
 pub calls_in_at_most : (n : ℕ) (bs : List ℕ) → length (calls_in n bs) ≤ n
@@ -43,10 +43,10 @@ unfolding calls_in
 calls_in_at_most zero bs = zero-le
 calls_in_at_most (suc n) bs = read_at_most (call_at bs 0) (calls_in n (drop call_bytes bs)) n (calls_in_at_most n (drop call_bytes bs))
 
-read_all : (r : CallRead) (xs ys zs : List Call) (n : ℕ) → length (read_then r xs) ≡ suc n → (length xs ≡ n → ys ≡ xs ++ zs)
+read_all : (r : Option Call) (xs ys zs : List Call) (n : ℕ) → length (read_then r xs) ≡ suc n → (length xs ≡ n → ys ≡ xs ++ zs)
     → read_then r ys ≡ read_then r xs ++ zs
-read_all (CallRead.Good c) xs ys zs n e f = ap (λ (l : List Call). c ∷ l) (f (omega arith))
-read_all CallRead.Record xs ys zs n e f = absurd (omega arith)
+read_all (Some c) xs ys zs n e f = ap (λ (l : List Call). c ∷ l) (f (omega arith))
+read_all None xs ys zs n e f = absurd (omega arith)
 
 pub calls_in_all : (n m : ℕ) (bs : List ℕ) → length (calls_in n bs) ≡ n
     → calls_in (n + m) bs ≡ calls_in n bs ++ calls_in m (drop (call_bytes * n) bs)
@@ -61,10 +61,10 @@ calls_in_all (suc n) m bs e =
     ∙ ap (λ (l : List ℕ). calls_in n (drop call_bytes bs) ++ calls_in m l)
     (drop-drop (call_bytes * n) call_bytes bs ∙ ap (λ (k : ℕ). drop k bs) far))
 
-read_stop : (r : CallRead) (xs ys : List Call) (n : ℕ) → length (read_then r xs) < suc n → (length xs < n → ys ≡ xs)
+read_stop : (r : Option Call) (xs ys : List Call) (n : ℕ) → length (read_then r xs) < suc n → (length xs < n → ys ≡ xs)
     → read_then r ys ≡ read_then r xs
-read_stop (CallRead.Good c) xs ys n h f = ap (λ (l : List Call). c ∷ l) (f (le_of_suc-le-suc h))
-read_stop CallRead.Record xs ys n h f = refl
+read_stop (Some c) xs ys n h f = ap (λ (l : List Call). c ∷ l) (f (le_of_suc-le-suc h))
+read_stop None xs ys n h f = refl
 
 pub calls_in_stop : (n m : ℕ) (bs : List ℕ) → length (calls_in n bs) < n → calls_in (n + m) bs ≡ calls_in n bs
 unfolding calls_in

@@ -2,32 +2,32 @@
 -- Assumes nothing.
 use mathlib.Core.Path.{◌≡◌, refl, sym, ap, ◌∙◌}
 use mathlib.Core.Bool.{true, ◌&&◌}
+use Rattle.std.specs.Prelude.{Some, Ok, Err}
 use mathlib.Core.List.{List}
 use Prim.Native.Nat.{ℕ, ◌+◌, ◌≤◌, ◌<◌, ◌^◌}
-use native.Mathlib.Omega.{arith}
 use lib.Dec.{leb, lit<}
 use lib.ListN.{length}
 use borrow.Author.Tests.{lt-ltb, le-leb}
-use Rattle.records.specs.declared.Answer.{Answer}
+use Rattle.records.specs.declared.Refusal.{Refusal}
 use Rattle.records.specs.declared.Call.{Call}
-use Rattle.records.specs.declared.CallRead.{CallRead}
 use Rattle.records.specs.declared.Reply.{Reply}
-use Rattle.records.specs.Answers.{number_of, value_of, place_of}
+use Rattle.records.specs.Answers.{Answer, number_of, value_of, place_of}
 use Rattle.records.specs.Format.{answer_bytes, goes_in, key_of, new_value_of, call_at, answer_of, answer_record, reply_fits}
-use Rattle.records.specs.Format.{put_at, Written, wrote, written_answer}
+use Rattle.records.specs.Format.{put_at, Written, wrote, written, written_answer}
 use Rattle.records.proofs.Bytes.{and_left}
-use Rattle.records.proofs.Fields.{answer_length}
+use Rattle.records.specs.Kinds.{answer_long}
 use Rattle.records.proofs.RoundTrip.{calls}
 use Rattle.steps.specs.Store.{Store}
 use Rattle.steps.specs.declared.Answered.{Answered}
+use Rattle.steps.specs.declared.Board.{Board}
 use Rattle.steps.specs.Step.{outcome, step}
 use Rattle.steps.specs.Run.{pair_of}
-use Rattle.lanes.specs.Serve.{reply_to, no_call, OneAnswered, one_answered, answer_one}
+use Rattle.lanes.specs.Serve.{reply_to, no_call, one_answered, answer_one}
 
 -- READING
 
 -- a call that was read has a place byte
-pub call_place : (bs : List ℕ) (at : ℕ) (call : Call) → call_at bs at ≡ CallRead.Good call → goes_in 1 (place_of call) ≡ true
+pub call_place : (bs : List ℕ) (at : ℕ) (call : Call) → call_at bs at ≡ Some call → goes_in 1 (place_of call) ≡ true
 call_place bs at call e =
     and_left (goes_in 1 (place_of call)) (goes_in 2 (key_of call) && goes_in 4 (new_value_of call)) ((calls.reads bs at call).0 e).0
 
@@ -35,19 +35,19 @@ call_place bs at call e =
 
 -- the answer that its number and value name
 pub answer_back : (a : Answer) → answer_of (number_of a) (value_of a) ≡ a
-answer_back (Answer.Ok v) = refl
-answer_back Answer.Board = refl
-answer_back Answer.Place = refl
-answer_back Answer.Busy = refl
-answer_back Answer.Idle = refl
-answer_back Answer.Worn = refl
-answer_back Answer.Spoiled = refl
-answer_back Answer.Held = refl
-answer_back Answer.Key = refl
-answer_back Answer.Conflict = refl
-answer_back Answer.Prepared = refl
-answer_back Answer.Full = refl
-answer_back Answer.Record = refl
+answer_back (Ok v) = refl
+answer_back (Err Refusal.Board) = refl
+answer_back (Err Refusal.Place) = refl
+answer_back (Err Refusal.Busy) = refl
+answer_back (Err Refusal.Idle) = refl
+answer_back (Err Refusal.Worn) = refl
+answer_back (Err Refusal.Spoiled) = refl
+answer_back (Err Refusal.Held) = refl
+answer_back (Err Refusal.Key) = refl
+answer_back (Err Refusal.Conflict) = refl
+answer_back (Err Refusal.Prepared) = refl
+answer_back (Err Refusal.Full) = refl
+answer_back (Err Refusal.Record) = refl
 
 -- where the answer has a record and there is room, its record is put
 pub written_is : (bs : List ℕ) (to : ℕ) (reply : Reply) → goes_in 1 reply.place ≡ true → value_of reply.answer < 256 ^ 4
@@ -56,21 +56,21 @@ unfolding written_answer
 written_is bs to reply p v h =
     let fits : reply_fits reply ≡ true = rw (p, lt-ltb (value_of reply.answer) (256 ^ 4) v) in
     let room : leb (to + length (answer_record reply)) (length bs) ≡ true =
-    rw answer_length (le-leb (to + answer_bytes) (length bs) h) in
+    rw answer_long (le-leb (to + answer_bytes) (length bs) h) in
     rw (fits, room)
 
 -- ONE RECORD
 
 module _ (st : Store) (answers : List ℕ) (to : ℕ) (room : to + answer_bytes ≤ length answers) where
   -- what `reply_to` hands back: the step done, and its answer in the lent bytes
-  pub replied : (call : Call) (r : Answered) (ws' : List ℕ) (place : ℕ) (value : ℕ) (w : Answer) (answers' : List ℕ)
-      → goes_in 1 (place_of call) ≡ true → outcome r ws' ≡ step st call → place ≡ place_of call
-      → value ≡ value_of r.answer → value < 256 ^ 4
-      → wrote w answers' ≡ written_answer answers to (record { place = place; answer = r.answer })
-      → one_answered (record { board = r.board; good = true }) ws' answers' ≡ answer_one st (CallRead.Good call) answers to
-  replied call r ws' place value w answers' g o p v h wr =
+  pub replied : (call : Call) (b : Board) (r : Answered) (ws' : List ℕ) (place : ℕ) (w : Answer) (answers' : List ℕ)
+      → goes_in 1 (place_of call) ≡ true → outcome r ws' ≡ step st call → place ≡ place_of call → value_of r.answer < 256 ^ 4
+      → wrote w answers' ≡ written (reply_fits (record { place = place; answer = r.answer })) answers to
+      (answer_record (record { place = place; answer = r.answer }))
+      → one_answered b (Some r.board) ws' answers' ≡ answer_one st (Some call) answers to
+  unfolding written_answer
+  replied call b r ws' place w answers' g o p small wr =
       let byte : goes_in 1 place ≡ true = ap (goes_in 1) p ∙ g in
-      let small : value_of r.answer < 256 ^ 4 = omega arith in
       let named : r.answer ≡ answer_of (step st call).said.number (step st call).said.value =
       sym (answer_back r.answer) ∙ (λ i. answer_of (o i).said.number (o i).said.value) in
       let put : answers' ≡ put_at answers to (answer_record (reply_to (pair_of st call))) =
@@ -81,10 +81,7 @@ module _ (st : Store) (answers : List ℕ) (to : ℕ) (room : to + answer_bytes 
 
 -- what `no_call` leaves in the lent bytes
 pub no_call_put : (answers : List ℕ) (to : ℕ) (w : Answer) (answers' : List ℕ) → to + answer_bytes ≤ length answers
-    → wrote w answers' ≡ written_answer answers to no_call → answers' ≡ put_at answers to (answer_record no_call)
+    → wrote w answers' ≡ written (reply_fits no_call) answers to (answer_record no_call)
+    → answers' ≡ put_at answers to (answer_record no_call)
+unfolding written_answer
 no_call_put answers to w answers' room wr = ap (λ (s : Written). s.bytes) wr ∙ written_is answers to no_call refl (lit< tt) room
-
--- what `answer_at` hands back: what was read decides
-pub answered : (st : Store) (bytes : List ℕ) (at : ℕ) (answers : List ℕ) (to : ℕ) (o : OneAnswered) (read : CallRead)
-    → call_at bytes at ≡ read → o ≡ answer_one st read answers to → o ≡ answer_one st (call_at bytes at) answers to
-answered st bytes at answers to o read e h = h ∙ ap (λ (r : CallRead). answer_one st r answers to) (sym e)

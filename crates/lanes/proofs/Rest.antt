@@ -5,7 +5,8 @@
 --     rest_none    past the last record nothing is left
 -- Assumes nothing.
 use mathlib.Core.Path.{◌≡◌, refl, sym, ap, ◌∙◌}
-use mathlib.Core.Bool.{Bool, true, false, cond, true≢false, false≢true}
+use mathlib.Core.Bool.{Bool, true, cond, true≢false, false≢true}
+use Rattle.std.specs.Prelude.{Some, None, Option}
 use mathlib.Core.List.{List, [], ◌∷◌, ◌++◌, append_assoc}
 use Prim.Native.Nat.{ℕ, suc, ◌+◌, ◌*◌, ◌-◌, ◌≤◌, ◌<◌}
 use native.Mathlib.Nat.{zero-add, add-zero}
@@ -14,33 +15,16 @@ use lib.Dec.{ltb, leb, leb-suc-suc, leb-zero}
 use lib.ListN.{length, take, drop, length-append, take-append-drop}
 use lib.Seq.{drop-drop}
 use Rattle.records.specs.declared.Call.{Call}
-use Rattle.records.specs.declared.CallRead.{CallRead}
 use Rattle.records.specs.Format.{call_bytes, answer_bytes, answer_record, call_at, put_at}
+use Rattle.steps.specs.declared.Board.{Board}
 use Rattle.steps.specs.Store.{Store, Outcome, lent}
 use Rattle.steps.specs.Step.{step}
 use Rattle.steps.specs.Run.{Run, pair_of, run}
 use Rattle.lanes.specs.declared.Stop.{Stop}
-use Rattle.lanes.specs.declared.Next.{Next}
-use Rattle.lanes.specs.Serve.{
-  read_then,
-  calls_in,
-  reply_to,
-  no_call,
-  replies_of,
-  records_of,
-  whole_calls,
-  tried,
-  refused,
-  Serving,
-  serve_first,
-  serve_of,
-  serve_into,
-  OneAnswered,
-  one_answered,
-  answer_one,
-}
+use Rattle.lanes.specs.Serve.{read_then, calls_in, reply_to, no_call, replies_of, records_of, whole_calls, tried}
+use Rattle.lanes.specs.Serve.{refused, Serving, serve_first, serve_of, serve_into, OneAnswered, one_answered, answer_one}
 use Rattle.records.proofs.Bytes.{put_next}
-use Rattle.records.proofs.Fields.{answer_length}
+use Rattle.records.specs.Kinds.{answer_long}
 
 -- calls that are left, of so many records, with i records answered before them; last is why serving stops if they are all calls
 abbrev rest_with : List Call → ℕ → ℕ → Stop → Store → List ℕ → Serving
@@ -57,6 +41,11 @@ rest_with calls left i last st answers =
 
 abbrev pub rest : ℕ → ℕ → Stop → Store → List ℕ → List ℕ → Serving
 rest left i last st bytes answers = rest_with (calls_in left (drop (call_bytes * i) bytes)) left i last st answers
+
+-- what stopping at bytes that are no call comes to, with i records answered before them
+abbrev pub stopped : ℕ → Store → List ℕ → Serving
+stopped i st answers =
+    record { store = st; answers = answers; taken = call_bytes * i; written = answer_bytes * i + answer_bytes; stop = Stop.Record }
 
 abbrev pub last_stop : List ℕ → ℕ → Stop
 last_stop bytes records = cond (leb (whole_calls bytes) records) Stop.End Stop.Room
@@ -80,7 +69,7 @@ module _ (st : Store) (bytes answers : List ℕ) where
 
 -- the call at the front of what is left
 module _ (bytes : List ℕ) (i k : ℕ) where
-  next_good : (call : Call) → call_at bytes (call_bytes * i) ≡ CallRead.Good call
+  next_good : (call : Call) → call_at bytes (call_bytes * i) ≡ Some call
       → calls_in (suc k) (drop (call_bytes * i) bytes) ≡ call ∷ calls_in k (drop (call_bytes * (i + 1)) bytes)
   unfolding calls_in call_at
   next_good call e =
@@ -89,9 +78,9 @@ module _ (bytes : List ℕ) (i k : ℕ) where
       drop-drop call_bytes (call_bytes * i) bytes ∙ ap (λ (n : ℕ). drop n bytes) far in
       λ j. read_then (e j) (calls_in k (behind j))
 
-  next_bad : call_at bytes (call_bytes * i) ≡ CallRead.Record → calls_in (suc k) (drop (call_bytes * i) bytes) ≡ []
+  next_bad : call_at bytes (call_bytes * i) ≡ None → calls_in (suc k) (drop (call_bytes * i) bytes) ≡ []
   unfolding calls_in call_at
-  next_bad e = ap (λ (r : CallRead). read_then r (calls_in k (drop call_bytes (drop (call_bytes * i) bytes)))) e
+  next_bad e = ap (λ (r : Option Call). read_then r (calls_in k (drop call_bytes (drop (call_bytes * i) bytes)))) e
 
 module _ (i k : ℕ) (last : Stop) (st : Store) (answers : List ℕ) where
   with_good : (call : Call) (calls : List Call) → answer_bytes * i + answer_bytes ≤ length answers
@@ -108,7 +97,7 @@ module _ (i k : ℕ) (last : Stop) (st : Store) (answers : List ℕ) where
       let outs : rec ++ records_of (replies_of ran) ++ refused (suc (length calls)) (suc k) ≡ rec ++ out =
       ap (λ (t : Bool). rec ++ records_of (replies_of ran) ++ cond t (answer_record no_call) []) less
       ∙ append_assoc rec (records_of (replies_of ran)) (refused (length calls) k) in
-      let long : length rec ≡ answer_bytes = answer_length (reply_to (pair_of st call)) in
+      let long : length rec ≡ answer_bytes = answer_long (reply_to (pair_of st call)) in
       let far : answer_bytes * i + length rec ≡ answer_bytes * (i + 1) = omega arith in
       let puts : put_at answers (answer_bytes * i) (rec ++ records_of (replies_of ran) ++ refused (suc (length calls)) (suc k))
       ≡ put_at (put_at answers (answer_bytes * i) rec) (answer_bytes * (i + 1)) out =
@@ -127,20 +116,13 @@ module _ (i k : ℕ) (last : Stop) (st : Store) (answers : List ℕ) where
         stop = cond (less j) Stop.Record last;
       }
 
-  with_bad : rest_with [] (suc k) i last st answers
-      ≡ record {
-        store = st;
-        answers = put_at answers (answer_bytes * i) (answer_record no_call);
-        taken = call_bytes * i;
-        written = answer_bytes * (i + 1);
-        stop = Stop.Record;
-      }
+  with_bad : rest_with [] (suc k) i last st answers ≡ stopped i st (put_at answers (answer_bytes * i) (answer_record no_call))
   unfolding run records_of
   with_bad =
       let first : ltb 0 (suc k) ≡ true = leb-suc-suc 0 k ∙ leb-zero k in
       let outs : refused 0 (suc k) ≡ answer_record no_call = ap (λ (t : Bool). cond t (answer_record no_call) []) first in
-      let writes : answer_bytes * i + length (refused 0 (suc k)) ≡ answer_bytes * (i + 1) =
-      ap (λ (l : List ℕ). answer_bytes * i + length l) outs ∙ rw answer_length (omega arith) in
+      let writes : answer_bytes * i + length (refused 0 (suc k)) ≡ answer_bytes * i + answer_bytes =
+      ap (λ (l : List ℕ). answer_bytes * i + length l) outs ∙ rw answer_long (omega arith) in
       λ j. record {
         store = st;
         answers = put_at answers (answer_bytes * i) (outs j);
@@ -171,76 +153,51 @@ module _ (i k : ℕ) (last : Stop) (st : Store) (answers : List ℕ) where
       }
 
 -- one turn of the loop: what answering the record at the front of what is left tells
-module _ (i k : ℕ) (last : Stop) (st : Store) (bytes answers : List ℕ) (t : Next) (ws' answers' : List ℕ) where
-  pub rest_good : answer_bytes * i + answer_bytes ≤ length answers
-      → one_answered t ws' answers' ≡ answer_one st (call_at bytes (call_bytes * i)) answers (answer_bytes * i) → t.good ≡ true
-      → rest (suc k) i last st bytes answers ≡ rest k (i + 1) last (lent t.board ws') bytes answers'
-  rest_good room e g = go (call_at bytes (call_bytes * i)) refl e
+module _ (i k : ℕ) (last : Stop) (st : Store) (bytes answers : List ℕ) (b : Board) (ws' answers' : List ℕ) where
+  pub rest_good : (after : Board) → answer_bytes * i + answer_bytes ≤ length answers
+      → one_answered b (Some after) ws' answers' ≡ answer_one st (call_at bytes (call_bytes * i)) answers (answer_bytes * i)
+      → rest (suc k) i last st bytes answers ≡ rest k (i + 1) last (lent after ws') bytes answers'
+  rest_good after room e = go (call_at bytes (call_bytes * i)) refl e
     where
-      go : (r : CallRead) → call_at bytes (call_bytes * i) ≡ r → one_answered t ws' answers' ≡ answer_one st r answers (answer_bytes * i)
-          → rest (suc k) i last st bytes answers ≡ rest k (i + 1) last (lent t.board ws') bytes answers'
-      go (CallRead.Good call) h o =
+      go : (r : Option Call) → call_at bytes (call_bytes * i) ≡ r
+          → one_answered b (Some after) ws' answers' ≡ answer_one st r answers (answer_bytes * i)
+          → rest (suc k) i last st bytes answers ≡ rest k (i + 1) last (lent after ws') bytes answers'
+      go (Some call) h o =
           ap (λ (l : List Call). rest_with l (suc k) i last st answers) (next_good bytes i k call h)
           ∙ with_good i k last st answers call (calls_in k (drop (call_bytes * (i + 1)) bytes)) room
           ∙ sym (λ j. rest k (i + 1) last (o j).store bytes (o j).answers)
-      go CallRead.Record h o = absurd (true≢false (sym g ∙ ap (λ (s : OneAnswered). s.good) o))
+      go None h o = absurd (true≢false (ap (λ (s : OneAnswered). s.good) o))
 
-  pub rest_bad : one_answered t ws' answers' ≡ answer_one st (call_at bytes (call_bytes * i)) answers (answer_bytes * i) → t.good ≡ false
-      → rest (suc k) i last st bytes answers
-      ≡ record {
-        store = lent t.board ws';
-        answers = answers';
-        taken = call_bytes * i;
-        written = answer_bytes * (i + 1);
-        stop = Stop.Record;
-      }
-  rest_bad e g = go (call_at bytes (call_bytes * i)) refl e
+  pub rest_bad : one_answered b None ws' answers' ≡ answer_one st (call_at bytes (call_bytes * i)) answers (answer_bytes * i)
+      → rest (suc k) i last st bytes answers ≡ stopped i (lent b ws') answers'
+  rest_bad e = go (call_at bytes (call_bytes * i)) refl e
     where
-      go : (r : CallRead) → call_at bytes (call_bytes * i) ≡ r → one_answered t ws' answers' ≡ answer_one st r answers (answer_bytes * i)
-          → rest (suc k) i last st bytes answers
-          ≡ record {
-            store = lent t.board ws';
-            answers = answers';
-            taken = call_bytes * i;
-            written = answer_bytes * (i + 1);
-            stop = Stop.Record;
-          }
-      go (CallRead.Good call) h o = absurd (false≢true (sym g ∙ ap (λ (s : OneAnswered). s.good) o))
-      go CallRead.Record h o =
+      go : (r : Option Call) → call_at bytes (call_bytes * i) ≡ r
+          → one_answered b None ws' answers' ≡ answer_one st r answers (answer_bytes * i)
+          → rest (suc k) i last st bytes answers ≡ stopped i (lent b ws') answers'
+      go (Some call) h o = absurd (false≢true (ap (λ (s : OneAnswered). s.good) o))
+      go None h o =
           ap (λ (l : List Call). rest_with l (suc k) i last st answers) (next_bad bytes i k h)
           ∙ with_bad i k last st answers
-          ∙ sym (λ j. record {
-            store = (o j).store;
-            answers = (o j).answers;
-            taken = call_bytes * i;
-            written = answer_bytes * (i + 1);
-            stop = Stop.Record;
-          })
+          ∙ sym (λ j. stopped i (o j).store (o j).answers)
 
 -- the same, of n records in all
-module _ (n i : ℕ) (h : i < n) (last : Stop) (st : Store) (bytes answers : List ℕ) (t : Next) (ws' answers' : List ℕ)
-    (e : one_answered t ws' answers' ≡ answer_one st (call_at bytes (call_bytes * i)) answers (answer_bytes * i)) where
+module _ (n i : ℕ) (h : i < n) (last : Stop) (st : Store) (bytes answers : List ℕ) (b : Board) (ws' answers' : List ℕ) where
   one_less : n - i ≡ suc (n - (i + 1))
   one_less = omega arith
 
-  pub turn_good : answer_bytes * i + answer_bytes ≤ length answers → t.good ≡ true
-      → rest (n - i) i last st bytes answers ≡ rest (n - (i + 1)) (i + 1) last (lent t.board ws') bytes answers'
-  turn_good room g =
+  pub turn_good : (after : Board) → answer_bytes * i + answer_bytes ≤ length answers
+      → one_answered b (Some after) ws' answers' ≡ answer_one st (call_at bytes (call_bytes * i)) answers (answer_bytes * i)
+      → rest (n - i) i last st bytes answers ≡ rest (n - (i + 1)) (i + 1) last (lent after ws') bytes answers'
+  turn_good after room e =
       ap (λ (left : ℕ). rest left i last st bytes answers) one_less
-      ∙ rest_good i (n - (i + 1)) last st bytes answers t ws' answers' room e g
+      ∙ rest_good i (n - (i + 1)) last st bytes answers b ws' answers' after room e
 
-  pub turn_bad : t.good ≡ false
-      → rest (n - i) i last st bytes answers
-      ≡ record {
-        store = lent t.board ws';
-        answers = answers';
-        taken = call_bytes * i;
-        written = answer_bytes * (i + 1);
-        stop = Stop.Record;
-      }
-  turn_bad g =
+  pub turn_bad : one_answered b None ws' answers' ≡ answer_one st (call_at bytes (call_bytes * i)) answers (answer_bytes * i)
+      → rest (n - i) i last st bytes answers ≡ stopped i (lent b ws') answers'
+  turn_bad e =
       ap (λ (left : ℕ). rest left i last st bytes answers) one_less
-      ∙ rest_bad i (n - (i + 1)) last st bytes answers t ws' answers' e g
+      ∙ rest_bad i (n - (i + 1)) last st bytes answers b ws' answers' e
 
 pub rest_none : (i : ℕ) (last : Stop) (st : Store) (bytes answers : List ℕ)
     → rest 0 i last st bytes answers

@@ -5,7 +5,7 @@
 --     turn_is           what `turn_on` calls comes to a turn on those bytes
 --     turn_ended, -got  what `turn` hands back at the end of the input, and after a read
 -- Assumes nothing.
-use mathlib.Core.Path.{◌≡◌, refl, sym, ap, ◌∙◌}
+use mathlib.Core.Path.{◌≡◌, refl, sym, ap, ◌∙◌, subst⁻¹}
 use mathlib.Core.Logic.{◌⊎◌, inl, inr, ⊎_elim}
 use mathlib.Core.Bool.{Bool, true, false, cond}
 use mathlib.Core.List.{List, [], ◌++◌}
@@ -17,11 +17,11 @@ use lib.ListN.{length, take, drop, length-take, length-drop, take-append-drop, d
 use lib.Seq.{take_all, take-add, take-append_seam, length-take-le, length-slice}
 use Rattle.records.specs.Format.{call_bytes, answer_bytes, answer_record, put_at}
 use Rattle.records.proofs.Bytes.{put_front}
-use Rattle.records.proofs.Fields.{answer_length}
+use Rattle.records.specs.Kinds.{answer_long}
 use Rattle.steps.specs.Store.{Store, lent}
 use Rattle.lanes.specs.declared.Served.{Served}
 use Rattle.lanes.specs.declared.Desk.{Desk}
-use Rattle.lanes.specs.Serve.{no_call, tried, serving, into_bytes, serve_first, serve_of, serve_into}
+use Rattle.lanes.specs.Serve.{no_call, tried, Serving, serving, into_bytes, serve_first, serve_of, serve_into}
 use Rattle.lanes.specs.Desk.{Input, serve_all, more_after, turn_on, at_end, turn_of, desk_in, TurnedIn, turned_in, turn_put, turn_into}
 use Rattle.lanes.proofs.Calls.{calls_in_at_most}
 use Rattle.lanes.proofs.Pieces.{roomy}
@@ -76,12 +76,12 @@ pub end_cut : (left : ℕ) (answers answers' : List ℕ) → (left ≡ 0 → ⊥
     → (answer_bytes ≡ length (at_end left)) × (answers' ≡ put_at answers 0 (at_end left))
 end_cut left answers answers' n e =
     let cut : answer_record no_call ≡ at_end left = ap (λ (t : Bool). cond t [] (answer_record no_call)) (sym (ne_eqb left 0 n)) in
-    (sym (answer_length no_call) ∙ ap length cut, e ∙ ap (put_at answers 0) cut)
+    (sym (answer_long no_call) ∙ ap length cut, e ∙ ap (put_at answers 0) cut)
 
 -- SERVING THEM
 
 -- no more is taken than is there
-pub taken_in : (st : Store) (bytes answers : List ℕ) → (serve_into st bytes answers).taken ≤ length bytes
+taken_in : (st : Store) (bytes answers : List ℕ) → (serve_into st bytes answers).taken ≤ length bytes
 unfolding serve_of serve_first
 taken_in st bytes answers = omega (arith, calls_in_at_most (tried bytes (length answers)) bytes)
 
@@ -92,6 +92,11 @@ module _ (st : Store) (bytes : List ℕ) (have : ℕ) (answers : List ℕ) (ther
 
   part_long : length part ≡ have
   part_long = length-take-le have bytes there
+
+  pub taken_there : (s : Served) (ws' answers' : List ℕ) → serving s ws' answers' ≡ serve_into st part answers → s.taken ≤ have
+  taken_there s ws' answers' e =
+      let h : s.taken ≤ length part = subst⁻¹ (λ (o : Serving). o.taken ≤ length part) e (taken_in st part answers) in
+      omega (arith, part_long)
 
   enough : serve_of st part (length answers) ≡ serve_all st part
   enough = roomy st part (length answers) (rw part_long room)

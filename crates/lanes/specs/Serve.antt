@@ -1,23 +1,23 @@
 -- Call records answered one after another.
 -- Assumes nothing.
-use Rattle.std.specs.Prelude.{ℕ, zero, suc, ◌*◌, ◌/◌, min, Bool, true, false, cond, List, [], ◌∷◌, ◌++◌, map, ltb, leb, length, drop}
-use Rattle.records.specs.declared.Answer.{Answer}
+use Rattle.std.specs.Prelude.{ℕ, zero, suc, ◌*◌, ◌/◌, min, Bool, true, false, cond, Option, Some, None, Err}
+use Rattle.std.specs.Prelude.{List, [], ◌∷◌, ◌++◌, map, ltb, leb, length, drop}
+use Rattle.records.specs.declared.Refusal.{Refusal}
 use Rattle.records.specs.declared.Call.{Call}
-use Rattle.records.specs.declared.CallRead.{CallRead}
 use Rattle.records.specs.declared.Reply.{Reply}
 use Rattle.records.specs.Answers.{place_of}
 use Rattle.records.specs.Format.{call_bytes, answer_bytes, answer_of, answer_record, call_at, put_at}
+use Rattle.steps.specs.declared.Board.{Board}
 use Rattle.steps.specs.Store.{Store, lent}
 use Rattle.steps.specs.Step.{step}
 use Rattle.steps.specs.Run.{Pair, Run, pair_of, run}
 use Rattle.lanes.specs.declared.Stop.{Stop}
 use Rattle.lanes.specs.declared.Served.{Served}
-use Rattle.lanes.specs.declared.Next.{Next}
 
 -- the calls behind one that was read; none from bytes that are no call
-abbrev pub read_then : CallRead → List Call → List Call
-read_then (CallRead.Good call) calls = call ∷ calls
-read_then CallRead.Record calls = []
+abbrev pub read_then : Option Call → List Call → List Call
+read_then (Some call) calls = call ∷ calls
+read_then None calls = []
 
 -- the calls in so many records, up to bytes that are no call
 unfoldable pub calls_in : ℕ → List ℕ → List Call
@@ -34,7 +34,7 @@ replies_of r = map reply_to r.pairs
 
 -- RECORD with place 0 and value 0
 abbrev pub no_call : Reply
-no_call = record { place = 0; answer = Answer.Record }
+no_call = record { place = 0; answer = Err Refusal.Record }
 
 -- the bytes of answers
 unfoldable pub records_of : List Reply → List ℕ
@@ -115,12 +115,13 @@ pub record OneAnswered : Type 0 where
   pub answers : List ℕ
   pub good : Bool
 
--- what answering one record handed back, as such a record
-abbrev pub one_answered : Next → List ℕ → List ℕ → OneAnswered
-one_answered r ws answers = record { store = lent r.board ws; answers = answers; good = r.good }
+-- what answering one record handed back, as such a record: the board after a call; bytes that are no call leave the board as it was
+abbrev pub one_answered : Board → Option Board → List ℕ → List ℕ → OneAnswered
+one_answered b (Some after) ws answers = record { store = lent after ws; answers = answers; good = true }
+one_answered b None ws answers = record { store = lent b ws; answers = answers; good = false }
 
 -- a call does its step and is answered in the lent bytes; bytes that are no call change nothing of the store
-abbrev pub answer_one : Store → CallRead → List ℕ → ℕ → OneAnswered
-answer_one st (CallRead.Good call) answers to =
+abbrev pub answer_one : Store → Option Call → List ℕ → ℕ → OneAnswered
+answer_one st (Some call) answers to =
     record { store = (step st call).store; answers = put_at answers to (answer_record (reply_to (pair_of st call))); good = true }
-answer_one st CallRead.Record answers to = record { store = st; answers = put_at answers to (answer_record no_call); good = false }
+answer_one st None answers to = record { store = st; answers = put_at answers to (answer_record no_call); good = false }

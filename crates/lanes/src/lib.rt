@@ -2,7 +2,7 @@
 
 #![tactic(auto)]
 
-ghost use Rattle.std.specs.Prelude.{◌≡◌, ◌+◌, ◌*◌, ◌-◌, ◌/◌, ◌≤◌, min, true, cond, ◌&&◌, leb, length, take, drop};
+ghost use Rattle.std.specs.Prelude.{◌≡◌, ◌+◌, ◌*◌, ◌-◌, ◌/◌, ◌≤◌, true, cond, ◌&&◌, leb, length, take, drop};
 ghost use Rattle.records.specs.Answers.{place_of};
 ghost use Rattle.records.specs.Format.{answer_bytes, call_bytes, goes_in, answer_record, call_at, put_at};
 ghost use Rattle.steps.specs.Store.{lent};
@@ -11,13 +11,13 @@ ghost use Rattle.lanes.specs.Serve.{no_call, serving, serve_into, one_answered, 
 ghost use Rattle.lanes.specs.Desk.{desk_words, more_after, at_end, turn_on, fresh_desk, turned_in, turn_put, turn_into};
 
 use cells::Cell;
-use records::{ANSWER_BYTES, Answer, CALL_BYTES, Call, CallRead, Reply};
+use records::{ANSWER_BYTES, CALL_BYTES, Call, Refusal, Reply};
 use steps::{Answered, Board};
 
 pub mod stream;
 
 // Why serving stopped: fewer bytes than a call record are left, bytes that are no call, or no room for one more answer.
-#[derive(Clone, Copy)]
+#[derive(Clone, Copy, Debug, PartialEq, Eq)]
 pub enum Stop {
     End,
     Record,
@@ -25,19 +25,12 @@ pub enum Stop {
 }
 
 // How far serving got: the new record, how many bytes of calls were taken and of answers written, and why it stopped.
-#[derive(Clone, Copy)]
+#[derive(Clone, Copy, Debug, PartialEq, Eq)]
 pub struct Served {
     pub board: Board,
     pub taken: usize,
     pub written: usize,
     pub stop: Stop,
-}
-
-// The record after one call record, and whether that was a call.
-#[derive(Clone, Copy)]
-struct Next {
-    board: Board,
-    good: bool,
 }
 
 // The step that a call names.
@@ -54,7 +47,9 @@ pub fn call(board: Board, cells: &mut [u32], call: Call) -> Answered
     }
 }
 
-// Answers the call record at an offset of the calls, from an offset of the answers.
+// Answers the call record at an offset of the calls, from an offset of the answers. Hands back the record after it, or None for bytes
+// that are no call: the record is then as it was.
+#[tactic(auto, using(crate::proofs::Replies::call_place), unfolding(records::specs::Format::call_at))]
 fn answer_at(
     board: Board,
     cells: &mut [u32],
@@ -62,99 +57,65 @@ fn answer_at(
     at: usize,
     answers: &mut [u8],
     to: usize,
-) -> Next
+) -> Option<Board>
     requires { to + answer_bytes ≤ length answers.old }
-    ensures { one_answered result cells.new answers.new
+    ensures { one_answered board result cells.new answers.new
         ≡ answer_one (lent board cells.old) (call_at calls.now at) answers.old to }
 {
-    let read = records::read_call(calls, at);
-    match read {
-        CallRead::Good(c) => reply_to(board, cells, c, answers, to),
-        CallRead::Record => {
-            no_call(answers, to);
-            Next {
-                board: board,
-                good: false,
-            }
-        }
-    }
+    let Some(c) = records::read::<Call>(calls, at) else {
+        no_call(answers, to);
+        return None;
+    };
+    Some(reply_to(board, cells, c, answers, to))
 }
 
 // Does a call that was read, and writes its answer, with the call's place byte.
-fn reply_to(board: Board, cells: &mut [u32], c: Call, answers: &mut [u8], to: usize) -> Next
+fn reply_to(board: Board, cells: &mut [u32], c: Call, answers: &mut [u8], to: usize) -> Board
     requires { (goes_in 1 (place_of c) ≡ true) × (to + answer_bytes ≤ length answers.old) }
-    ensures { one_answered result cells.new answers.new
-        ≡ answer_one (lent board cells.old) (CallRead.Good c) answers.old to }
+    ensures { one_answered board (Some result) cells.new answers.new
+        ≡ answer_one (lent board cells.old) (Some c) answers.old to }
 {
-    let a = call(board, cells, c);
-    let answer = a.answer;
+    let done = call(board, cells, c);
+    let answer = done.answer;
+    // A value goes into its four bytes, so the record is written; the proof rests on this line.
+    prove!(records::value(answer) <= u32::MAX);
     let place = records::place_of(c);
-    // A u32, so the answer goes into its record; the proof rests on this call, and the code makes nothing of it.
-    records::value(answer);
-    let reply = Reply {
-        place: place,
-        answer: answer,
-    };
-    records::write_answer(answers, to, reply);
-    let next = a.board;
-    Next {
-        board: next,
-        good: true,
-    }
+    let _ = records::write(answers, to, Reply { place, answer });
+    done.board
 }
 
-// Writes RECORD with place 0 and value 0.
+// Writes RECORD with place 0 and value 0, which there is room for.
 fn no_call(answers: &mut [u8], to: usize)
     requires { to + answer_bytes ≤ length answers.old }
     ensures { answers.new ≡ put_at answers.old to (answer_record no_call) }
 {
-    let reply = Reply {
-        place: 0,
-        answer: Answer::Record,
-    };
-    records::write_answer(answers, to, reply);
-}
-
-// The lesser of two numbers.
-fn least(a: usize, b: usize) -> usize
-    ensures { result ≡ min a b }
-{
-    if a <= b {
-        return a;
-    }
-    b
+    let answer = Err(Refusal::Record);
+    let _ = records::write(answers, to, Reply { place: 0, answer });
 }
 
 // Answers call records one after another: to the end of the whole records, to bytes that are no call (RECORD is written for them, and
 // they are not taken), or until no room is left for one more answer.
-pub fn serve(board: Board, cells: &mut [u32], calls: &[u8], answers: &mut [u8]) -> Served
+pub fn serve(mut board: Board, cells: &mut [u32], calls: &[u8], answers: &mut [u8]) -> Served
     ensures { serving result cells.new answers.new
         ≡ serve_into (lent board cells.old) calls.now answers.old }
 {
     let whole = calls.len() / CALL_BYTES;
-    let records = least(whole, answers.len() / ANSWER_BYTES);
-    let mut next = board;
+    let records = whole.min(answers.len() / ANSWER_BYTES);
+    // By offsets: once a `chunks_exact_mut` over `answers` is done, a proof knows nothing of what was written through it.
     for i in 0..records {
-        let t = answer_at(
-            next,
-            cells,
-            calls,
-            CALL_BYTES * i,
-            answers,
-            ANSWER_BYTES * i,
-        );
-        next = t.board;
-        if !t.good {
+        let (at, to) = (CALL_BYTES * i, ANSWER_BYTES * i);
+        let Some(after) = answer_at(board, cells, calls, at, answers, to) else {
             return Served {
-                board: next,
-                taken: CALL_BYTES * i,
-                written: ANSWER_BYTES * (i + 1),
+                board,
+                taken: at,
+                written: to + ANSWER_BYTES,
                 stop: Stop::Record,
             };
-        }
+        };
+        board = after;
     }
     Served {
-        board: next,
+        board,
         taken: CALL_BYTES * records,
         written: ANSWER_BYTES * records,
         stop: last_stop(whole, records),
@@ -166,23 +127,25 @@ fn last_stop(whole: usize, records: usize) -> Stop
     ensures { result ≡ cond (leb whole records) Stop.End Stop.Room }
 {
     if whole <= records {
-        return Stop::End;
+        Stop::End
+    } else {
+        Stop::Room
     }
-    Stop::Room
 }
 
 // The desk between two turns: the record, and how many bytes at the front of its input are a cut record.
-#[derive(Clone, Copy)]
+#[derive(Clone, Copy, Debug, PartialEq, Eq)]
 pub struct Desk {
     pub board: Board,
     pub left: usize,
 }
 
 // What a turn came to: the desk after it, how many bytes of answers there are to send, and whether there is more to do.
-#[derive(Clone, Copy)]
+#[derive(Clone, Copy, Debug, PartialEq, Eq)]
 pub struct Turned {
     pub desk: Desk,
     pub written: usize,
+    // A flag beside values: they hold either way, as the desk has to send what it wrote after its last turn too.
     pub more: bool,
 }
 
@@ -203,14 +166,14 @@ impl Desk {
     pub fn fresh() -> Self
         ensures { result ≡ fresh_desk }
     {
-        let board = Board::fresh();
         Desk {
-            board: board,
+            board: Board::fresh(),
             left: 0,
         }
     }
 
     // 1,024 cells, every word 0.
+    #[tactic(auto, unfolding(cells::specs::Cells::words_of))]
     pub fn words() -> [u32; Desk::WORDS]
         ensures { result ≡ desk_words }
     {
@@ -229,36 +192,16 @@ impl Desk {
         ensures { turned_in result cells.new bytes.new answers.new
             ≡ turn_into self cells.old bytes.old got answers.old }
     {
-        self.turn_with(cells, bytes, got, answers)
-    }
-
-    // The same on any number of bytes, with room for their answers.
-    fn turn_with(
-        self,
-        cells: &mut [u32],
-        bytes: &mut [u8],
-        got: usize,
-        answers: &mut [u8],
-    ) -> Turned
-        requires { (answer_bytes ≤ length answers.old) × (answer_bytes * (length bytes.old / call_bytes) ≤ length answers.old) }
-        ensures { turned_in result cells.new bytes.new answers.new
-            ≡ turn_into self cells.old bytes.old got answers.old }
-    {
-        let board = self.board;
-        let left = least(self.left, bytes.len());
+        let left = self.left.min(bytes.len());
         if got == 0 {
-            let desk = Desk {
-                board: board,
-                left: left,
-            };
             return Turned {
-                desk: desk,
+                desk: Desk { left, ..self },
                 written: finish(left, answers),
                 more: false,
             };
         }
-        let have = left + least(got, bytes.len() - left);
-        turn_on(board, cells, bytes, have, answers)
+        let have = left + got.min(bytes.len() - left);
+        turn_on(self.board, cells, bytes, have, answers)
     }
 }
 
@@ -267,7 +210,7 @@ impl Turned {
     pub fn goes_on(self, sent: bool) -> bool
         ensures { result ≡ (self.more && sent) }
     {
-        self.more & sent
+        self.more && sent
     }
 }
 
@@ -284,17 +227,14 @@ fn turn_on(
         ≡ turn_put bytes.old answers.old (turn_on (lent board cells.old) (take have bytes.old)) }
 {
     let s = serve(board, cells, &bytes[..have], answers);
-    let left = carry(bytes, s.taken, have);
-    let after = s.board;
-    let stop = s.stop;
-    let desk = Desk {
-        board: after,
-        left: left,
-    };
+    bytes.copy_within(s.taken..have, 0);
     Turned {
-        desk: desk,
+        desk: Desk {
+            board: s.board,
+            left: have - s.taken,
+        },
         written: s.written,
-        more: more_after(stop),
+        more: more_after(s.stop),
     }
 }
 
@@ -302,23 +242,7 @@ fn turn_on(
 fn more_after(stop: Stop) -> bool
     ensures { result ≡ more_after stop }
 {
-    match stop {
-        Stop::End => true,
-        Stop::Record => false,
-        Stop::Room => false,
-    }
-}
-
-// Moves the bytes from one index up to another to the front, and says how many they are.
-fn carry(bytes: &mut [u8], from: usize, to: usize) -> usize
-    requires { (from ≤ to) × (to ≤ length bytes.old) }
-    ensures { (result ≡ to - from) × (bytes.new ≡ put_at bytes.old 0 (drop from (take to bytes.old))) }
-{
-    let n = to - from;
-    for i in 0..n {
-        bytes[i] = bytes[from + i];
-    }
-    n
+    matches!(stop, Stop::End)
 }
 
 // The end of the input, with so many bytes left: writes RECORD for a cut record, and says how many bytes were written.

@@ -3,6 +3,7 @@
 --     gets       a part of the bytes one by one, as the code reads it
 --     same_..    what `same_bytes` tests
 --     bytes_..   a number in so many bytes, and the number that bytes are: inverse, at every width
+--     .._low     the low bytes of a number, from the four that the library writes
 --     put_..     a record put from an offset: what stands there, what stands elsewhere, one put behind another
 -- Assumes nothing.
 use mathlib.Core.Path.{◌≡◌, refl, sym, ap, ◌∙◌, subst}
@@ -11,10 +12,10 @@ use mathlib.Core.List.{List, [], ◌∷◌, ◌++◌, append_assoc, append-nil}
 use Prim.Native.Nat.{ℕ, zero, suc, ◌+◌, ◌*◌, ◌-◌, ◌/◌, ◌%◌, ◌^◌, ◌≤◌, ◌<◌}
 use native.Mathlib.Nat.{pow-suc, pow-zero, zero-add}
 use native.Mathlib.Omega.{arith}
-use borrow.Author.Tests.{eqb-true, eq-eqb, leb-true, le-leb}
-use lib.Dec.{eqb, leb}
+use borrow.Author.Tests.{eqb-true, eq-eqb}
+use lib.Dec.{eqb}
 use lib.ListN.{length, get_or, take, drop, length-append, length-drop, drop_of_length-le, take-append-drop, get_or-append}
-use lib.Seq.{drop-cons, take_all, sets, sets-eq, drop-drop, length-take-le, take_at, drop_at, get_or-take, get_or-drop}
+use lib.Seq.{drop-cons, take_all, drop-drop, length-take-le, take_at, drop_at, get_or-take, get_or-drop}
 use Rattle.records.specs.Format.{bytes_of, number_in, same_bytes, put_at}
 
 -- TESTS
@@ -33,19 +34,8 @@ pub and_right : (a b : Bool) → (a && b) ≡ true → b ≡ true
 and_right true b e = e
 and_right false b e = absurd (false≢true e)
 
--- where two tests passed, and the second is that there is room: there is
-pub has_room : (n at len : ℕ) (fits has : Bool) → has ≡ leb (at + n) len → (fits && has) ≡ true → at + n ≤ len
-has_room n at len fits has told passed = leb-true _ _ (sym told ∙ and_right fits has passed)
-
 pub both : {a b : Bool} → a ≡ true → b ≡ true → (a && b) ≡ true
 both p q = cc
-
--- so many from an offset on, without a sum
-pub leb_left : (len at k : ℕ) → at ≤ len → leb k (len - at) ≡ leb (at + k) len
-leb_left len at k h =
-    same_test (leb k (len - at)) (leb (at + k) len)
-    (λ e. le-leb (at + k) len (omega (arith, leb-true k (len - at) e)))
-    (λ e. le-leb k (len - at) (omega (arith, leb-true (at + k) len e)))
 
 -- PARTS
 
@@ -145,23 +135,22 @@ same_number bs n h g =
     let m = sym (bytes_again bs h) ∙ ap (λ (k : ℕ). bytes_of (length bs) k) (eqb-true (number_in bs) n e) in
     subst (λ (l : List ℕ). same_bytes bs l ≡ true) m (same_self bs))
 
--- a number read by two bytes, and by two numbers of two bytes
-pub bytes_two : (l : List ℕ) (i a b : ℕ) → i + 2 ≤ length l → a ≡ get_or l i 0 → b ≡ get_or l (i + 1) 0 →
-    a + 256 * b ≡ number_in (take 2 (drop i l))
-bytes_two l i a b h p q =
-    let next : i + 1 ≡ suc i = omega arith in
-    let q' : b ≡ get_or l (suc i) 0 = q ∙ ap (λ (j : ℕ). get_or l j 0) next in
-    rw (part_gets 2 l i h) (omega arith)
+-- the low bytes of a number, as the library writes its four
+abbrev pub four_of : ℕ → List ℕ
+four_of n = n % 256 ∷ (n / 256 % 256 ∷ (n / 65536 % 256 ∷ (n / 16777216 % 256 ∷ [])))
 
-pub bytes_four : (l : List ℕ) (i a b : ℕ) → i + 4 ≤ length l → a ≡ number_in (take 2 (drop i l)) →
-    b ≡ number_in (take 2 (drop (i + 2) l)) → a + 65536 * b ≡ number_in (take 4 (drop i l))
-bytes_four l i a b h p q =
-    let next : i + 2 ≡ suc (suc i) = omega arith in
-    let low : a ≡ number_in (gets 2 l i) = p ∙ ap number_in (part_gets 2 l i (omega arith)) in
-    let high : b ≡ number_in (gets 2 l (suc (suc i))) = q
-    ∙ ap (λ (j : ℕ). number_in (take 2 (drop j l))) next
-    ∙ ap number_in (part_gets 2 l (suc (suc i)) (omega arith)) in
-    rw (part_gets 4 l i h) (omega arith)
+pub one_low : (l : List ℕ) (n : ℕ) → l ≡ four_of n → (get_or l 0 0 ∷ []) ≡ bytes_of 1 n
+one_low l n e = rw e
+
+pub two_low : (l : List ℕ) (n : ℕ) → l ≡ four_of n → (get_or l 0 0 ∷ (get_or l 1 0 ∷ [])) ≡ bytes_of 2 n
+two_low l n e = rw e
+
+pub four_low : (l : List ℕ) (n : ℕ) → l ≡ four_of n →
+    (get_or l 0 0 ∷ (get_or l 1 0 ∷ (get_or l 2 0 ∷ (get_or l 3 0 ∷ [])))) ≡ bytes_of 4 n
+four_low l n e =
+    let third : n / 65536 ≡ n / 256 / 256 = omega arith in
+    let fourth : n / 16777216 ≡ n / 256 / 256 / 256 = omega arith in
+    rw (e, third, fourth)
 
 -- PUTTING A RECORD
 
@@ -173,11 +162,6 @@ part_rest l i = take_all (length l - i) (drop i l) (omega (arith, length-drop i 
 pub put_is : (l : List ℕ) (at : ℕ) (rec : List ℕ) → put_at l at rec ≡ take at l ++ (rec ++ drop (at + length rec) l)
 unfolding put_at
 put_is l at rec = refl
-
--- stores one after the other from the front, as code makes them
-pub put_stores : (vs l : List ℕ) → length vs ≤ length l → sets l 0 vs ≡ put_at l 0 vs
-unfolding put_at
-put_stores vs l h = sets-eq vs l 0 (omega arith)
 
 -- at the front
 pub put_front : (l rec : List ℕ) → put_at l 0 rec ≡ rec ++ drop (length rec) l
@@ -256,15 +240,3 @@ put_same l at rec e =
     put_is l at rec
     ∙ ap (λ (r : List ℕ). take at l ++ (r ++ drop (at + length rec) l)) (sym e)
     ∙ rw (← drop-drop (length rec) at l, take-append-drop, take-append-drop)
-
--- bytes at the front, and more behind them in the part that is lent
-pub lent_next : (l front more : List ℕ) (n : ℕ) {now part : List ℕ} → length front ≡ n → n ≤ length l →
-    now ≡ put_at l 0 front →
-    part ≡ put_at (take (length now - n) (drop n now)) 0 more →
-    take n now ++ (part ++ drop (length now - n) (drop n now)) ≡ put_at l 0 (front ++ more)
-lent_next l front more n {now} {part} size room e f =
-    let from : 0 + length front ≡ n = omega arith in
-    put_part now n more part f
-    ∙ ap (λ (m : List ℕ). put_at m n more) e
-    ∙ ap (λ (k : ℕ). put_at (put_at l 0 front) k more) (sym from)
-    ∙ put_next l 0 front (omega arith) more

@@ -2,43 +2,24 @@
 --     call_found, answer_found    what reading finds, from the mark, the kind or number, the place byte and the numbers behind them
 --     as_written                  what writing gives, from the code's two tests
 -- Assumes nothing.
+use Rattle.std.specs.Prelude.{Some, None, Ok, Err}
+use Rattle.std.specs.Bool.{then_some}
 use mathlib.Core.Path.{◌≡◌, refl, sym, ap, ◌∙◌, subst}
-use mathlib.Core.Bool.{Bool, true, cond, ◌&&◌, and_assoc}
+use mathlib.Core.Bool.{Bool, true, false, cond, ◌&&◌, and_assoc}
 use mathlib.Core.List.{List, [], ◌∷◌, ◌++◌}
-use mathlib.Core.Logic.{⊎_elim}
 use Prim.Native.Nat.{ℕ, zero, suc, ◌+◌, ◌%◌, ◌^◌, ◌≤◌, ◌<◌}
-use native.Mathlib.Nat.{eq-zero-or-pos}
 use native.Mathlib.Omega.{arith}
 use borrow.Author.Tests.{eq-eqb}
 use lib.Dec.{eqb, leb}
-use lib.ListN.{length, get_or, take, drop, get_or-eq_default}
-use Rattle.records.specs.declared.Answer.{Answer}
-use Rattle.records.specs.declared.AnswerRead.{AnswerRead}
+use lib.ListN.{length, get_or, take}
+use Rattle.records.specs.declared.Refusal.{Refusal}
 use Rattle.records.specs.declared.Call.{Call}
-use Rattle.records.specs.declared.CallRead.{CallRead}
 use Rattle.records.specs.declared.Reply.{Reply}
-use Rattle.records.specs.Answers.{number_of, value_of, place_of}
-use Rattle.records.specs.Format.{call_bytes, kind_of, key_of, new_value_of, calls_of, call_of, call_record, call_from, call_in}
-use Rattle.records.specs.Format.{answer_bytes, answers_of, answer_of, answer_record, reply_from, answer_in}
+use Rattle.records.specs.Answers.{Answer, number_of, value_of, place_of}
+use Rattle.records.specs.Format.{kind_of, key_of, new_value_of, calls_of, call_of, call_record, call_from, call_in}
+use Rattle.records.specs.Format.{answers_of, answer_of, answer_record, reply_from, answer_in}
 use Rattle.records.specs.Format.{bytes_of, number_in, same_bytes, put_at, wrote, written}
 use Rattle.records.proofs.Bytes.{gets, part_gets, same_number, same_append, gets_all, gets_length, bytes_below}
-
--- a number that is no kind, and one that is no answer's
-pub no_kind : (kind place key value : ℕ) →
-    (kind ≡ 1 → ⊥) → (kind ≡ 2 → ⊥) → (kind ≡ 3 → ⊥) → (kind ≡ 4 → ⊥) → (kind ≡ 5 → ⊥) →
-    call_of kind place key value ≡ Call.Rollback place
-no_kind kind place key value a b c d e =
-    ⊎_elim
-    (λ none. rw none)
-    (λ some. let h : 6 ≤ kind = omega arith in get_or-eq_default (calls_of place key value) (Call.Rollback place) h)
-    (eq-zero-or-pos kind)
-
--- so one that is none of the numbers up to k is past k
-pub above : {k n : ℕ} → k ≤ n → (n ≡ k → ⊥) → suc k ≤ n
-above h e = omega arith
-
-pub no_answer : (number value : ℕ) → 12 ≤ number → answer_of number value ≡ Answer.Record
-no_answer number value h = get_or-eq_default (answers_of value) Answer.Record h
 
 -- what holds of each element of a list, and of the default, holds of the one at an index
 abbrev pub All : {A : Type 0} → (A → Type 0) → List A → Type 0
@@ -64,8 +45,13 @@ call_small kind place key value k v =
 pub answer_small : (number value : ℕ) → value < 256 ^ 4 → value_of (answer_of number value) < 256 ^ 4
 answer_small number value v =
     let z : 0 < 256 ^ 4 = omega arith in
-    all_at (λ (a : Answer). value_of a < 256 ^ 4) (answers_of value) Answer.Record
+    all_at (λ (a : Answer). value_of a < 256 ^ 4) (answers_of value) (Err Refusal.Record)
     (v, (z, (z, (z, (z, (z, (z, (z, (z, (z, (z, (z, tt)))))))))))) z number
+
+-- a value that is kept where a test passes
+kept : {A : Type 0} (t : Bool) (a : A) → then_some t a ≡ cond t (Some a) None
+kept true a = refl
+kept false a = refl
 
 -- the head of a record: the mark, the kind or number and the place byte
 head_test : (a b n p a' b' n' : ℕ) {p' : ℕ} (rest tail : List ℕ) → p < 256 → p' ≡ p →
@@ -104,23 +90,19 @@ module _ (s : List ℕ) (byte : (i : ℕ) → get_or s i 0 < 256) where
       )
 
   -- what reading the first ten bytes finds, from what the code has of them
-  pub call_found : 10 ≤ length s → {place key value : ℕ} {c : Call} {m n t : Bool} →
-      key ≡ number_in (take 2 (drop 4 s)) → value ≡ number_in (take 4 (drop 6 s)) → place ≡ get_or s 3 0 →
+  pub call_found : 10 ≤ length s → {place key value : ℕ} {c : Call} {n : Bool} →
+      key ≡ number_in (gets 2 s 4) → value ≡ number_in (gets 4 s 6) → place ≡ get_or s 3 0 →
       c ≡ call_of (get_or s 2 0) place key value →
-      m ≡ (eqb (get_or s 0 0) 0x43 && eqb (get_or s 1 0) 0x4C) →
       n ≡ (eqb (get_or s 2 0) (kind_of c) && (eqb key (key_of c) && eqb value (new_value_of c))) →
-      (m && n) ≡ t → cond t (CallRead.Good c) CallRead.Record ≡ call_in (take 10 s)
+      then_some ((eqb (get_or s 0 0) 0x43 && eqb (get_or s 1 0) 0x4C) && n) c ≡ call_in (take 10 s)
   unfolding call_in call_from
-  call_found h {place} {key} {value} {c} {m} {n} {t} k v p e marked named told =
-      let k' : key ≡ number_in (gets 2 s 4) = k ∙ ap number_in (part_gets 2 s 4 (omega arith)) in
-      let v' : value ≡ number_in (gets 4 s 6) = v ∙ ap number_in (part_gets 4 s 6 (omega arith)) in
+  call_found h {place} {key} {value} {c} {n} k v p e named =
       let C : Call = call_of (get_or s 2 0) (get_or s 3 0) (number_in (gets 2 s 4)) (number_in (gets 4 s 6)) in
       let same : c ≡ C = cc in
       let small : Small (get_or s 3 0) C = call_small (get_or s 2 0) (get_or s 3 0) _ _ (field_below 2 4) (field_below 4 6) in
       let tested = call_test C small in
-      let passes : t ≡ same_bytes (gets 10 s 0) (call_record C) = cc in
-      let found : cond t (CallRead.Good c) CallRead.Record ≡ call_in (gets 10 s 0) = cc in
-      found ∙ sym (ap call_in (part_gets 10 s 0 h))
+      let passes : ((eqb (get_or s 0 0) 0x43 && eqb (get_or s 1 0) 0x4C) && n) ≡ same_bytes (gets 10 s 0) (call_record C) = cc in
+      kept _ c ∙ (λ i. cond (passes i) (Some (same i)) None) ∙ sym (ap call_in (part_gets 10 s 0 h))
 
   -- eight bytes are the record of the answer that they name exactly if the code's tests pass
   answer_test : (a : Answer) → value_of a < 256 ^ 4 →
@@ -134,36 +116,25 @@ module _ (s : List ℕ) (byte : (i : ℕ) → get_or s i 0 < 256) where
       ∙ rw (field_test 4 4 (value_of a) value)
 
   -- what reading the first eight bytes finds, from what the code has of them
-  pub answer_found : 8 ≤ length s → {place value : ℕ} {a : Answer} {m n t : Bool} →
-      value ≡ number_in (take 4 (drop 4 s)) → place ≡ get_or s 3 0 → a ≡ answer_of (get_or s 2 0) value →
-      m ≡ (eqb (get_or s 0 0) 0x41 && eqb (get_or s 1 0) 0x4E) →
+  pub answer_found : 8 ≤ length s → {place value : ℕ} {a : Answer} {n : Bool} →
+      value ≡ number_in (gets 4 s 4) → place ≡ get_or s 3 0 → a ≡ answer_of (get_or s 2 0) value →
       n ≡ (eqb (get_or s 2 0) (number_of a) && eqb value (value_of a)) →
-      (m && n) ≡ t →
-      cond t (AnswerRead.Good (record { place = place; answer = a })) AnswerRead.Record ≡ answer_in (take 8 s)
+      then_some ((eqb (get_or s 0 0) 0x41 && eqb (get_or s 1 0) 0x4E) && n) (record { place = place; answer = a }) ≡ answer_in (take 8 s)
   unfolding answer_in reply_from
-  answer_found h {place} {value} {a} {m} {n} {t} v p e marked named told =
-      let v' : value ≡ number_in (gets 4 s 4) = v ∙ ap number_in (part_gets 4 s 4 (omega arith)) in
+  answer_found h {place} {value} {a} {n} v p e named =
       let A : Answer = answer_of (get_or s 2 0) (number_in (gets 4 s 4)) in
-      let r : Reply = record { place = place; answer = a } in
+      let R : Reply = record { place = get_or s 3 0; answer = A } in
       let same : a ≡ A = cc in
       let tested = answer_test A (answer_small (get_or s 2 0) _ (field_below 4 4)) in
-      let passes : t ≡ same_bytes (gets 8 s 0) (answer_record (record { place = get_or s 3 0; answer = A })) = cc in
-      let found : cond t (AnswerRead.Good r) AnswerRead.Record ≡ answer_in (gets 8 s 0) = cc in
-      found ∙ sym (ap answer_in (part_gets 8 s 0 h))
-
--- a call's record has ten bytes, an answer's eight
-pub call_length : (c : Call) → length (call_record c) ≡ call_bytes
-unfolding call_record
-call_length c = refl
-
-pub answer_length : (r : Reply) → length (answer_record r) ≡ answer_bytes
-unfolding answer_record
-answer_length r = refl
+      let passes : ((eqb (get_or s 0 0) 0x41 && eqb (get_or s 1 0) 0x4E) && n) ≡ same_bytes (gets 8 s 0) (answer_record R) = cc in
+      kept _ _
+      ∙ (λ i. cond (passes i) (Some (record { place = p i; answer = same i })) None)
+      ∙ sym (ap answer_in (part_gets 8 s 0 h))
 
 -- what writing a record of n bytes gives, from what the code has tested
 pub as_written : (bs : List ℕ) (at : ℕ) (rec : List ℕ) {has fits room t : Bool} {n : ℕ} →
     length rec ≡ n → fits ≡ has → room ≡ leb (at + n) (length bs) → (fits && room) ≡ t →
-    cond t (wrote (Answer.Ok 0) (put_at bs at rec)) (wrote Answer.Record bs) ≡ written has bs at rec
+    cond t (wrote (Ok 0) (put_at bs at rec)) (wrote (Err Refusal.Record) bs) ≡ written has bs at rec
 as_written bs at rec {has} {fits} {room} {t} {n} size e f told =
     let g : t ≡ (has && leb (at + length rec) (length bs)) = cc in
-    ap (λ (s : Bool). cond s (wrote (Answer.Ok 0) (put_at bs at rec)) (wrote Answer.Record bs)) g
+    ap (λ (s : Bool). cond s (wrote (Ok 0) (put_at bs at rec)) (wrote (Err Refusal.Record) bs)) g

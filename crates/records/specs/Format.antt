@@ -1,13 +1,11 @@
 -- Records: a call's ten bytes and an answer's eight; what reading and writing one at an offset give.
 -- Assumes nothing.
-use Rattle.std.specs.Prelude.{Bool, true, false, ◌&&◌, cond, List, [], ◌∷◌, ◌++◌}
+use Rattle.std.specs.Prelude.{Bool, true, false, ◌&&◌, cond, List, [], ◌∷◌, ◌++◌, Option, Some, None, Ok, Err}
 use Rattle.std.specs.Prelude.{ℕ, zero, suc, ◌+◌, ◌*◌, ◌/◌, ◌%◌, ◌^◌, eqb, ltb, leb, length, get_or, take, drop}
-use Rattle.records.specs.declared.Answer.{Answer}
-use Rattle.records.specs.declared.AnswerRead.{AnswerRead}
+use Rattle.records.specs.declared.Refusal.{Refusal}
 use Rattle.records.specs.declared.Call.{Call}
-use Rattle.records.specs.declared.CallRead.{CallRead}
 use Rattle.records.specs.declared.Reply.{Reply}
-use Rattle.records.specs.Answers.{number_of, value_of, place_of}
+use Rattle.records.specs.Answers.{Answer, number_of, value_of, place_of}
 
 -- Call, 10 bytes
 abbrev pub call_bytes : ℕ
@@ -90,8 +88,8 @@ calls_of place key value =
 -- the answers with a value in the order of their numbers
 abbrev pub answers_of : ℕ → List Answer
 answers_of value =
-    Answer.Ok value ∷ (Answer.Board ∷ (Answer.Place ∷ (Answer.Busy ∷ (Answer.Idle ∷ (Answer.Worn ∷ (Answer.Spoiled ∷
-    (Answer.Held ∷ (Answer.Key ∷ (Answer.Conflict ∷ (Answer.Prepared ∷ (Answer.Full ∷ [])))))))))))
+    Ok value ∷ (Err Refusal.Board ∷ (Err Refusal.Place ∷ (Err Refusal.Busy ∷ (Err Refusal.Idle ∷ (Err Refusal.Worn ∷ (Err Refusal.Spoiled ∷
+    (Err Refusal.Held ∷ (Err Refusal.Key ∷ (Err Refusal.Conflict ∷ (Err Refusal.Prepared ∷ (Err Refusal.Full ∷ [])))))))))))
 
 -- the call that a kind, a place, a key and a value name, with kind 6 for every kind past the list
 abbrev pub call_of : ℕ → ℕ → ℕ → ℕ → Call
@@ -99,7 +97,7 @@ call_of kind place key value = get_or (calls_of place key value) kind (Call.Roll
 
 -- the answer that a number and a value name, with number 12 for every number past the list
 abbrev pub answer_of : ℕ → ℕ → Answer
-answer_of number value = get_or (answers_of value) number Answer.Record
+answer_of number value = get_or (answers_of value) number (Err Refusal.Record)
 
 -- the one call that ten bytes could be the record of
 unfoldable pub call_from : List ℕ → Call
@@ -110,19 +108,19 @@ unfoldable pub reply_from : List ℕ → Reply
 reply_from bs = record { place = get_or bs 3 0; answer = answer_of (get_or bs 2 0) (number_in (take 4 (drop 4 bs))) }
 
 -- the call that the bytes are the record of; RECORD for bytes that are no call record
-unfoldable pub call_in : List ℕ → CallRead
-call_in bs = cond (same_bytes bs (call_record (call_from bs))) (CallRead.Good (call_from bs)) CallRead.Record
+unfoldable pub call_in : List ℕ → Option Call
+call_in bs = cond (same_bytes bs (call_record (call_from bs))) (Some (call_from bs)) None
 
 -- the answer that the bytes are the record of; RECORD for bytes that are no answer record
-unfoldable pub answer_in : List ℕ → AnswerRead
-answer_in bs = cond (same_bytes bs (answer_record (reply_from bs))) (AnswerRead.Good (reply_from bs)) AnswerRead.Record
+unfoldable pub answer_in : List ℕ → Option Reply
+answer_in bs = cond (same_bytes bs (answer_record (reply_from bs))) (Some (reply_from bs)) None
 
 -- reading takes the record at a given offset in lent bytes; an offset past the end is RECORD
-unfoldable pub call_at : List ℕ → ℕ → CallRead
+unfoldable pub call_at : List ℕ → ℕ → Option Call
 call_at bs at = call_in (take call_bytes (drop at bs))
 
 -- and so for an answer
-unfoldable pub answer_at : List ℕ → ℕ → AnswerRead
+unfoldable pub answer_at : List ℕ → ℕ → Option Reply
 answer_at bs at = answer_in (take answer_bytes (drop at bs))
 
 -- writing puts a record from a given offset and changes no other byte
@@ -142,7 +140,7 @@ wrote answer bs = record { number = number_of answer; value = value_of answer; b
 -- RECORD for what has no record, or too few bytes to write one in; on RECORD no byte changes
 abbrev pub written : Bool → List ℕ → ℕ → List ℕ → Written
 written has bs at rec =
-    cond (has && leb (at + length rec) (length bs)) (wrote (Answer.Ok 0) (put_at bs at rec)) (wrote Answer.Record bs)
+    cond (has && leb (at + length rec) (length bs)) (wrote (Ok 0) (put_at bs at rec)) (wrote (Err Refusal.Record) bs)
 
 -- writing a call: RECORD for a call that has no record, or fewer than 10 bytes to write one in
 unfoldable pub written_call : List ℕ → ℕ → Call → Written

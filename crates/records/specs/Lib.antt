@@ -1,3 +1,4 @@
 pub mod Answers
 pub mod Format
 pub mod Promises
+pub mod Kinds

@@ -2,13 +2,17 @@
 
 #![tactic(auto)]
 
-ghost use Rattle.std.specs.Prelude.{◌&&◌, ◌∷◌, ◌≡◌, ◌+◌, ◌%◌, ◌<◌, ◌≤◌, eqb, leb, length, get_or, take, drop};
-ghost use Rattle.records.specs.Answers.{number_of, value_of, place_of};
-ghost use Rattle.records.specs.Format.{call_bytes, call_record, kind_of, key_of, new_value_of, bytes_of, number_in};
-ghost use Rattle.records.specs.Format.{answer_bytes, answer_record, call_of, call_in, call_at, answer_of, answer_in, answer_at};
-ghost use Rattle.records.specs.Format.{goes_in, put_at, wrote, written_call, written_answer};
+ghost use Rattle.std.specs.Prelude.{ℕ, Bool, List, [], Option, Some, None, ◌&&◌, ◌≡◌, ◌+◌, ◌%◌, ◌≤◌, eqb, leb, length, take, drop};
+ghost use Rattle.records.specs.Answers.{number_of, name_of, value_of, place_of};
+ghost use Rattle.records.specs.Format.{call_bytes, call_fits, call_record, call_in, kind_of, key_of, new_value_of, call_of};
+ghost use Rattle.records.specs.Format.{answer_bytes, reply_fits, answer_record, answer_in, answer_of};
+ghost use Rattle.records.specs.Format.{goes_in, put_at, wrote, written};
+ghost use Rattle.records.specs.Kinds.{call_long, call_in_none, answer_long, answer_in_none};
 
-#[derive(Clone, Copy)]
+use std::error::Error;
+use std::fmt;
+
+#[derive(Clone, Copy, Debug, PartialEq, Eq)]
 pub enum Call {
     Start { place: u32 },
     Read { place: u32, key: u32 },
@@ -18,48 +22,193 @@ pub enum Call {
     Rollback { place: u32 },
 }
 
-#[derive(Clone, Copy)]
-pub enum Answer {
-    Ok(u32),
-    Board,
-    Place,
-    Busy,
-    Idle,
-    Worn,
-    Spoiled,
-    Held,
-    Key,
-    Conflict,
-    Prepared,
-    Full,
-    Record,
+// Why a call is refused, with the number that document 01 gives it.
+#[derive(Clone, Copy, Debug, PartialEq, Eq)]
+pub enum Refusal {
+    Board = 1,
+    Place = 2,
+    Busy = 3,
+    Idle = 4,
+    Worn = 5,
+    Spoiled = 6,
+    Held = 7,
+    Key = 8,
+    Conflict = 9,
+    Prepared = 10,
+    Full = 11,
+    Record = 12,
 }
 
+// By its name.
+impl fmt::Display for Refusal {
+    ghost output = { λ r. Some (name_of r) };
+
+    fn fmt<W: fmt::Write>(&self, f: &mut fmt::Formatter<W>) -> fmt::Result {
+        f.write_str(match self {
+            Refusal::Board => "BOARD",
+            Refusal::Place => "PLACE",
+            Refusal::Busy => "BUSY",
+            Refusal::Idle => "IDLE",
+            Refusal::Worn => "WORN",
+            Refusal::Spoiled => "SPOILED",
+            Refusal::Held => "HELD",
+            Refusal::Key => "KEY",
+            Refusal::Conflict => "CONFLICT",
+            Refusal::Prepared => "PREPARED",
+            Refusal::Full => "FULL",
+            Refusal::Record => "RECORD",
+        })
+    }
+}
+
+impl Error for Refusal {}
+
+// What comes back: OK with a value, or a refusal.
+pub type Answer = Result<u32, Refusal>;
+
 // An answer with the place byte of its record.
-#[derive(Clone, Copy)]
+#[derive(Clone, Copy, Debug, PartialEq, Eq)]
 pub struct Reply {
     pub place: u32,
     pub answer: Answer,
-}
-
-// What reading a call answers: OK with the call that stands at the offset, or RECORD.
-#[derive(Clone, Copy)]
-pub enum CallRead {
-    Good(Call),
-    Record,
-}
-
-// What reading an answer answers: OK with the answer that stands at the offset and its place, or RECORD.
-#[derive(Clone, Copy)]
-pub enum AnswerRead {
-    Good(Reply),
-    Record,
 }
 
 // A call's record is ten bytes, an answer's eight.
 pub const CALL_BYTES: usize = 10;
 
 pub const ANSWER_BYTES: usize = 8;
+
+// One kind of record: how many bytes it is, which values have one, and which bytes those are.
+pub trait Record: Copy {
+    ghost BYTES: { ℕ };
+
+    ghost fits: { Self → Bool };
+
+    ghost bytes: { Self → List ℕ };
+
+    ghost found: { List ℕ → Option Self };
+
+    const BYTES: usize;
+
+    // Whether the value has a record.
+    fn fits(self) -> bool
+        ensures { result ≡ fits self };
+
+    // Puts the value's record at the front of the bytes.
+    fn put(self, s: &mut [u8])
+        requires { BYTES ≤ length s.old }
+        ensures { s.new ≡ put_at s.old 0 (bytes self) };
+
+    // The value whose record stands at the front of the bytes.
+    fn find(s: &[u8]) -> Option<Self>
+        ensures { result ≡ found (take BYTES s.now) };
+
+    // Each record has its kind's size.
+    ghost long: { (a : Self) → length (bytes a) ≡ BYTES };
+
+    // No record stands in no bytes.
+    ghost found_none: { found [] ≡ None };
+}
+
+// Takes the record at an offset: OK with the value that it is of, or RECORD.
+pub fn read<R: Record>(bytes: &[u8], at: usize) -> Option<R>
+    ensures { result ≡ R.found (take R.BYTES (drop at bytes.now)) }
+{
+    R::find(bytes.get(at..)?)
+}
+
+// Writes a value's record from an offset: OK with 0, or RECORD with every byte as it was.
+pub fn write<R: Record>(bytes: &mut [u8], at: usize, value: R) -> Answer
+    ensures { wrote result bytes.new ≡ written (R.fits value) bytes.old at (R.bytes value) }
+{
+    if value.fits() & room(bytes.len(), at, R::BYTES) {
+        value.put(&mut bytes[at..]);
+        Ok(0)
+    } else {
+        Err(Refusal::Record)
+    }
+}
+
+// A call's record: 43 4C, kind, place byte, key in two bytes, value in four.
+impl Record for Call {
+    ghost BYTES = { call_bytes };
+
+    ghost fits = { call_fits };
+
+    ghost bytes = { call_record };
+
+    ghost found = { call_in };
+
+    ghost long = { call_long };
+
+    ghost found_none = { call_in_none };
+
+    const BYTES: usize = CALL_BYTES;
+
+    fn fits(self) -> bool {
+        goes_in(place_of(self), key_of(self), new_value_of(self))
+    }
+
+    fn put(self, s: &mut [u8]) {
+        let kind = kind_of(self);
+        let [place, ..] = place_of(self).to_le_bytes();
+        let [k0, k1, ..] = key_of(self).to_le_bytes();
+        let [v0, v1, v2, v3] = new_value_of(self).to_le_bytes();
+        s[..CALL_BYTES].copy_from_slice(&[MARK_C, MARK_L, kind, place, k0, k1, v0, v1, v2, v3]);
+    }
+
+    fn find(s: &[u8]) -> Option<Call> {
+        let &[c, l, kind, place, k0, k1, v0, v1, v2, v3, ..] = s else {
+            return None;
+        };
+        let key = u32::from(u16::from_le_bytes([k0, k1]));
+        let value = u32::from_le_bytes([v0, v1, v2, v3]);
+        let call = call_of(kind, u32::from(place), key, value);
+        let marked = (c == MARK_C) & (l == MARK_L);
+        (marked & call_named(call, kind, key, value)).then_some(call)
+    }
+}
+
+// An answer's record: 41 4E, refusal number 0 to 12, place byte, value in four bytes.
+impl Record for Reply {
+    ghost BYTES = { answer_bytes };
+
+    ghost fits = { reply_fits };
+
+    ghost bytes = { answer_record };
+
+    ghost found = { answer_in };
+
+    ghost long = { answer_long };
+
+    ghost found_none = { answer_in_none };
+
+    const BYTES: usize = ANSWER_BYTES;
+
+    fn fits(self) -> bool {
+        goes_in(self.place, 0, value(self.answer))
+    }
+
+    fn put(self, s: &mut [u8]) {
+        let no = number(self.answer);
+        let [place, ..] = self.place.to_le_bytes();
+        let [v0, v1, v2, v3] = value(self.answer).to_le_bytes();
+        s[..ANSWER_BYTES].copy_from_slice(&[MARK_A, MARK_N, no, place, v0, v1, v2, v3]);
+    }
+
+    fn find(s: &[u8]) -> Option<Reply> {
+        let &[a, n, no, place, v0, v1, v2, v3, ..] = s else {
+            return None;
+        };
+        let value = u32::from_le_bytes([v0, v1, v2, v3]);
+        let answer = answer_of(no, value);
+        let marked = (a == MARK_A) & (n == MARK_N);
+        (marked & answer_named(answer, no, value)).then_some(Reply {
+            place: u32::from(place),
+            answer,
+        })
+    }
+}
 
 // The marks: CL before a call, AN before an answer.
 const MARK_C: u8 = 0x43;
@@ -75,19 +224,8 @@ pub fn number(a: Answer) -> u8
     ensures { result ≡ number_of a }
 {
     match a {
-        Answer::Ok(_) => 0,
-        Answer::Board => 1,
-        Answer::Place => 2,
-        Answer::Busy => 3,
-        Answer::Idle => 4,
-        Answer::Worn => 5,
-        Answer::Spoiled => 6,
-        Answer::Held => 7,
-        Answer::Key => 8,
-        Answer::Conflict => 9,
-        Answer::Prepared => 10,
-        Answer::Full => 11,
-        Answer::Record => 12,
+        Ok(_) => 0,
+        Err(refusal) => refusal as u8,
     }
 }
 
@@ -95,21 +233,7 @@ pub fn number(a: Answer) -> u8
 pub fn value(a: Answer) -> u32
     ensures { result ≡ value_of a }
 {
-    match a {
-        Answer::Ok(v) => v,
-        Answer::Board => 0,
-        Answer::Place => 0,
-        Answer::Busy => 0,
-        Answer::Idle => 0,
-        Answer::Worn => 0,
-        Answer::Spoiled => 0,
-        Answer::Held => 0,
-        Answer::Key => 0,
-        Answer::Conflict => 0,
-        Answer::Prepared => 0,
-        Answer::Full => 0,
-        Answer::Record => 0,
-    }
+    a.unwrap_or(0)
 }
 
 // The place that a call names.
@@ -117,65 +241,12 @@ pub fn place_of(c: Call) -> u32
     ensures { result ≡ place_of c }
 {
     match c {
-        Call::Start { place } => place,
-        Call::Read { place, key: _ } => place,
-        Call::Update {
-            place,
-            key: _,
-            value: _,
-        } => place,
-        Call::Prepare { place } => place,
-        Call::Commit { place } => place,
-        Call::Rollback { place } => place,
-    }
-}
-
-// Takes the call record at an offset: OK with the call, or RECORD.
-pub fn read_call(bytes: &[u8], at: usize) -> CallRead
-    ensures { result ≡ call_at bytes.now at }
-{
-    if room(bytes.len(), at, CALL_BYTES) {
-        call_in(&bytes[at..])
-    } else {
-        CallRead::Record
-    }
-}
-
-// Takes the answer record at an offset: OK with the answer and its place, or RECORD.
-pub fn read_answer(bytes: &[u8], at: usize) -> AnswerRead
-    ensures { result ≡ answer_at bytes.now at }
-{
-    if room(bytes.len(), at, ANSWER_BYTES) {
-        answer_in(&bytes[at..])
-    } else {
-        AnswerRead::Record
-    }
-}
-
-// Writes a call's record from an offset: OK with 0, or RECORD with every byte as it was.
-pub fn write_call(bytes: &mut [u8], at: usize, call: Call) -> Answer
-    ensures { wrote result bytes.new ≡ written_call bytes.old at call }
-{
-    let fits = goes_in(place_of(call), key_of(call), new_value_of(call));
-    if fits & room(bytes.len(), at, CALL_BYTES) {
-        put_call(&mut bytes[at..], call);
-        Answer::Ok(0)
-    } else {
-        Answer::Record
-    }
-}
-
-// Writes an answer's record from an offset: OK with 0, or RECORD with every byte as it was.
-pub fn write_answer(bytes: &mut [u8], at: usize, reply: Reply) -> Answer
-    ensures { wrote result bytes.new ≡ written_answer bytes.old at reply }
-{
-    let answer = reply.answer;
-    let fits = goes_in(reply.place, 0, value(answer));
-    if fits & room(bytes.len(), at, ANSWER_BYTES) {
-        put_answer(&mut bytes[at..], reply);
-        Answer::Ok(0)
-    } else {
-        Answer::Record
+        Call::Start { place }
+        | Call::Read { place, .. }
+        | Call::Update { place, .. }
+        | Call::Prepare { place }
+        | Call::Commit { place }
+        | Call::Rollback { place } => place,
     }
 }
 
@@ -184,16 +255,12 @@ fn kind_of(c: Call) -> u8
     ensures { result ≡ kind_of c }
 {
     match c {
-        Call::Start { place: _ } => 1,
-        Call::Read { place: _, key: _ } => 2,
-        Call::Update {
-            place: _,
-            key: _,
-            value: _,
-        } => 3,
-        Call::Prepare { place: _ } => 4,
-        Call::Commit { place: _ } => 5,
-        Call::Rollback { place: _ } => 6,
+        Call::Start { .. } => 1,
+        Call::Read { .. } => 2,
+        Call::Update { .. } => 3,
+        Call::Prepare { .. } => 4,
+        Call::Commit { .. } => 5,
+        Call::Rollback { .. } => 6,
     }
 }
 
@@ -202,16 +269,8 @@ pub fn key_of(c: Call) -> u32
     ensures { result ≡ key_of c }
 {
     match c {
-        Call::Start { place: _ } => 0,
-        Call::Read { place: _, key } => key,
-        Call::Update {
-            place: _,
-            key,
-            value: _,
-        } => key,
-        Call::Prepare { place: _ } => 0,
-        Call::Commit { place: _ } => 0,
-        Call::Rollback { place: _ } => 0,
+        Call::Read { key, .. } | Call::Update { key, .. } => key,
+        _ => 0,
     }
 }
 
@@ -220,16 +279,8 @@ fn new_value_of(c: Call) -> u32
     ensures { result ≡ new_value_of c }
 {
     match c {
-        Call::Start { place: _ } => 0,
-        Call::Read { place: _, key: _ } => 0,
-        Call::Update {
-            place: _,
-            key: _,
-            value,
-        } => value,
-        Call::Prepare { place: _ } => 0,
-        Call::Commit { place: _ } => 0,
-        Call::Rollback { place: _ } => 0,
+        Call::Update { value, .. } => value,
+        _ => 0,
     }
 }
 
@@ -250,120 +301,17 @@ fn goes_in(place: u32, key: u32, value: u32) -> bool
     (place < 256) & (key < 65536)
 }
 
-// Puts a call's record into the first ten bytes.
-fn put_call(s: &mut [u8], call: Call)
-    requires { call_bytes ≤ length s.old }
-    ensures { s.new ≡ put_at s.old 0 (call_record call) }
-{
-    put_head(s, MARK_C, MARK_L, kind_of(call), place_of(call));
-    put_two(&mut s[4..], key_of(call));
-    put_four(&mut s[6..], new_value_of(call));
-}
-
-// Puts an answer's record into the first eight bytes.
-fn put_answer(s: &mut [u8], reply: Reply)
-    requires { answer_bytes ≤ length s.old }
-    ensures { s.new ≡ put_at s.old 0 (answer_record reply) }
-{
-    let answer = reply.answer;
-    put_head(s, MARK_A, MARK_N, number(answer), reply.place);
-    put_four(&mut s[4..], value(answer));
-}
-
-// Puts a mark, a kind or number and a place byte into the first four bytes.
-fn put_head(s: &mut [u8], first: u8, second: u8, kind: u8, place: u32)
-    requires { 4 ≤ length s.old }
-    ensures { s.new ≡ put_at s.old 0 (first ∷ (second ∷ (kind ∷ bytes_of 1 place))) }
-{
-    s[0] = first;
-    s[1] = second;
-    s[2] = kind;
-    s[3] = low(place);
-}
-
-// Puts a number into the first two bytes.
-fn put_two(s: &mut [u8], n: u32)
-    requires { 2 ≤ length s.old }
-    ensures { s.new ≡ put_at s.old 0 (bytes_of 2 n) }
-{
-    s[0] = low(n);
-    s[1] = low(n / 256);
-}
-
-// Puts a number into the first four bytes.
-fn put_four(s: &mut [u8], n: u32)
-    requires { 4 ≤ length s.old }
-    ensures { s.new ≡ put_at s.old 0 (bytes_of 4 n) }
-{
-    let second = n / 256;
-    let third = second / 256;
-    s[0] = low(n);
-    s[1] = low(second);
-    s[2] = low(third);
-    s[3] = low(third / 256);
-}
-
-// The lowest byte of a number.
-fn low(n: u32) -> u8
-    ensures { result ≡ n % 256 }
-{
-    (n % 256) as u8
-}
-
-// The call whose record the first ten bytes are.
-fn call_in(s: &[u8]) -> CallRead
-    requires { call_bytes ≤ length s.now }
-    ensures { result ≡ call_in (take call_bytes s.now) }
-{
-    let kind = s[2];
-    let place = wide(s[3]);
-    let key = two(s, 4);
-    let value = four(s, 6);
-    let call = call_of(kind, place, key, value);
-    if marked(s, MARK_C, MARK_L) & call_named(call, kind, key, value) {
-        CallRead::Good(call)
-    } else {
-        CallRead::Record
-    }
-}
-
-// The answer whose record the first eight bytes are.
-fn answer_in(s: &[u8]) -> AnswerRead
-    requires { answer_bytes ≤ length s.now }
-    ensures { result ≡ answer_in (take answer_bytes s.now) }
-{
-    let no = s[2];
-    let place = wide(s[3]);
-    let val = four(s, 4);
-    let answer = answer_of(no, val);
-    if marked(s, MARK_A, MARK_N) & answer_named(answer, no, val) {
-        AnswerRead::Good(Reply {
-            place: place,
-            answer: answer,
-        })
-    } else {
-        AnswerRead::Record
-    }
-}
-
 // The call that a kind, a place, a key and a value name.
 fn call_of(kind: u8, place: u32, key: u32, value: u32) -> Call
     ensures { result ≡ call_of kind place key value }
 {
     match kind {
-        1 => Call::Start { place: place },
-        2 => Call::Read {
-            place: place,
-            key: key,
-        },
-        3 => Call::Update {
-            place: place,
-            key: key,
-            value: value,
-        },
-        4 => Call::Prepare { place: place },
-        5 => Call::Commit { place: place },
-        _ => Call::Rollback { place: place },
+        1 => Call::Start { place },
+        2 => Call::Read { place, key },
+        3 => Call::Update { place, key, value },
+        4 => Call::Prepare { place },
+        5 => Call::Commit { place },
+        _ => Call::Rollback { place },
     }
 }
 
@@ -372,19 +320,19 @@ fn answer_of(number: u8, value: u32) -> Answer
     ensures { result ≡ answer_of number value }
 {
     match number {
-        0 => Answer::Ok(value),
-        1 => Answer::Board,
-        2 => Answer::Place,
-        3 => Answer::Busy,
-        4 => Answer::Idle,
-        5 => Answer::Worn,
-        6 => Answer::Spoiled,
-        7 => Answer::Held,
-        8 => Answer::Key,
-        9 => Answer::Conflict,
-        10 => Answer::Prepared,
-        11 => Answer::Full,
-        _ => Answer::Record,
+        0 => Ok(value),
+        1 => Err(Refusal::Board),
+        2 => Err(Refusal::Place),
+        3 => Err(Refusal::Busy),
+        4 => Err(Refusal::Idle),
+        5 => Err(Refusal::Worn),
+        6 => Err(Refusal::Spoiled),
+        7 => Err(Refusal::Held),
+        8 => Err(Refusal::Key),
+        9 => Err(Refusal::Conflict),
+        10 => Err(Refusal::Prepared),
+        11 => Err(Refusal::Full),
+        _ => Err(Refusal::Record),
     }
 }
 
@@ -400,37 +348,4 @@ fn answer_named(answer: Answer, no: u8, val: u32) -> bool
     ensures { result ≡ (eqb no (number_of answer) && eqb val (value_of answer)) }
 {
     (no == number(answer)) & (val == value(answer))
-}
-
-// Whether the first two bytes are a mark.
-fn marked(s: &[u8], first: u8, second: u8) -> bool
-    requires { 2 ≤ length s.now }
-    ensures { result ≡ (eqb (get_or s.now 0 0) first && eqb (get_or s.now 1 0) second) }
-{
-    (s[0] == first) & (s[1] == second)
-}
-
-// The number in four bytes from an offset.
-fn four(s: &[u8], at: usize) -> u32
-    requires { at + 4 ≤ length s.now }
-    ensures { result ≡ number_in (take 4 (drop at s.now)) }
-{
-    two(s, at) + 65536 * two(s, at + 2)
-}
-
-// The number in two bytes from an offset.
-fn two(s: &[u8], at: usize) -> u32
-    requires { at + 2 ≤ length s.now }
-    ensures { (result ≡ number_in (take 2 (drop at s.now))) × (result < 65536) }
-{
-    let first = wide(s[at]);
-    let second = wide(s[at + 1]);
-    first + 256 * second
-}
-
-// A byte as a number.
-fn wide(b: u8) -> u32
-    ensures { (result ≡ b) × (result < 256) }
-{
-    b as u32
 }

@@ -5,6 +5,7 @@
 -- Of the places not idle only the caller's changes. So what is said of them all is said of that one and of the others:
 -- `Put q others all` is that they all are the others with q put in among them.
 -- Assumes nothing.
+use Rattle.std.specs.Prelude.{Err}
 use Prim.Native.Nat.{ℕ, zero, suc, ◌+◌, ◌≤◌, ◌<◌}
 use mathlib.Core.Path.{◌≡◌, refl, sym, ap, ◌∙◌}
 use mathlib.Core.Logic.{⊎_elim}
@@ -18,7 +19,7 @@ use lib.Dec.{eqb, leb, ltb}
 use lib.ListN.{length, get_or, set, length-set, length-map}
 use lib.Seq.{set-get_or, set_out}
 use Rattle.records.specs.declared.Call.{Call}
-use Rattle.records.specs.declared.Answer.{Answer}
+use Rattle.records.specs.declared.Refusal.{Refusal}
 use Rattle.cells.specs.declared.Cell.{Cell}
 use Rattle.cells.specs.Cells.{whole_cells}
 use Rattle.cells.proofs.Words.{length_same}
@@ -300,17 +301,17 @@ module _ (st : Store) where
   Fits o = Shape o.store.board words
 
   done_shape : Shape b words → (call : Call) → Cleared (facts st call) → Fits (done st call)
-  done_shape s (Call.Start p) g = start_shape b words s p (not-false _ (g Answer.Busy)) (leb-false _ _ (g Answer.Worn))
+  done_shape s (Call.Start p) g = start_shape b words s p (not-false _ (g (Err Refusal.Busy))) (leb-false _ _ (g (Err Refusal.Worn)))
   done_shape s (Call.Read p key) g = on_read Fits st p key (λ i e. s) (λ e h. s) (λ e h. s)
   done_shape s (Call.Update p key value) g =
       on_update Fits st p key value
       (λ i e. s)
-      (λ e h. turn_shape b words s p (g Answer.Idle) State.Spoiled refl)
+      (λ e h. turn_shape b words s p (g (Err Refusal.Idle)) State.Spoiled refl)
       (λ e h i f. s)
       (λ e h f. s)
-  done_shape s (Call.Prepare p) g = turn_shape b words s p (g Answer.Idle) State.Prepared refl
-  done_shape s (Call.Commit p) g = idle_shape b words s p (g Answer.Idle) _ (omega arith) (omega arith)
-  done_shape s (Call.Rollback p) g = idle_shape b words s p (g Answer.Idle) _ (omega arith) (omega arith)
+  done_shape s (Call.Prepare p) g = turn_shape b words s p (g (Err Refusal.Idle)) State.Prepared refl
+  done_shape s (Call.Commit p) g = idle_shape b words s p (g (Err Refusal.Idle)) _ (omega arith) (omega arith)
+  done_shape s (Call.Rollback p) g = idle_shape b words s p (g (Err Refusal.Idle)) _ (omega arith) (omega arith)
 
   pub keeps_shape : (call : Call) → in_shape b words ≡ true → in_shape (step st call).store.board (length (step st call).store.words) ≡ true
   keeps_shape call e =

@@ -1,11 +1,10 @@
--- A scan of the places from the front: what one turn, and the end, tell. In each, `drop i ps` is what has yet to be looked at,
--- and `here` is the place that the turn looks at.
+-- The places not idle, and the scans of all places that tell of them.
 --     long            the places of a record that a function owns are 16
---     count_turn      how many places are not idle
---     number_turn     whether one of those has a number
---     distinct_turn   whether their numbers are distinct
---     each_turn       whether every one of those passes a test
---     held_end        the end of these scans
+--     held_count      how many places are not idle
+--     held_number     whether one of those has a number
+--     held_each       whether every one of those passes a test
+--     distinct_turn   whether their numbers are distinct: one turn of a scan from the front, `here` the place that the turn looks at
+--     held_end        the end of that scan
 -- Assumes nothing.
 use mathlib.Core.Path.{◌≡◌, refl, sym, ap, ◌∙◌}
 use mathlib.Core.Bool.{Bool, true, false, cond, not, ◌&&◌, ◌||◌}
@@ -14,6 +13,8 @@ use Prim.Native.Nat.{ℕ, ◌+◌, ◌<◌, ◌≤◌}
 use native.Mathlib.Omega.{arith}
 use lib.Dec.{eqb}
 use lib.ListN.{length, get_or, drop, length-map, drop_of_length-le}
+use Rattle.std.specs.List.{filter, count_by, list_any, list_all}
+use Rattle.std.proofs.lemmas.List.Sums.{length-filter}
 use Rattle.cells.proofs.Laws.{drop_next}
 use Rattle.steps.specs.declared.Place.{Place}
 use Rattle.steps.specs.Record.{idle_place, is_idle}
@@ -23,32 +24,33 @@ use Rattle.steps.specs.Shape.{held, has_number, distinct, each}
 pub long : (Y : Type 0) (f : Place → Y) (l : List Place) (n : ℕ) → length (map f l) ≡ n → length l ≡ n
 long Y f l n e = sym (length-map l f) ∙ e
 
--- one place before others, where t says whether it is idle
-abbrev before : Bool → Place → List Place → List Place
-before t p ps = cond t ps (p ∷ ps)
+held_is : (ps : List Place) → filter (λ p. not (is_idle p.state)) ps ≡ held ps
+held_is [] = refl
+held_is (p ∷ ps) = turn (is_idle p.state) (held_is ps)
+  where
+    turn : (t : Bool) {l m : List Place} → l ≡ m → cond (not t) (p ∷ l) l ≡ cond t m (p ∷ m)
+    turn true e = e
+    turn false e = ap (λ (l : List Place). p ∷ l) e
 
-before_count : (t : Bool) (p : Place) (ps : List Place) → length (before t p ps) ≡ cond t 0 1 + length ps
-before_count true p ps = omega arith
-before_count false p ps = omega arith
+pub held_count : (ps : List Place) → count_by (λ p. not (is_idle p.state)) ps ≡ length (held ps)
+held_count ps = sym (length-filter (λ (p : Place). not (is_idle p.state)) ps) ∙ ap length (held_is ps)
 
-before_number : (t : Bool) (p : Place) (ps : List Place) (n : ℕ)
-    → has_number n (before t p ps) ≡ ((not t && eqb p.number n) || has_number n ps)
-before_number true p ps n = refl
-before_number false p ps n = refl
+pub held_number : (n : ℕ) (ps : List Place) → list_any (λ p. not (is_idle p.state) && eqb p.number n) ps ≡ has_number n (held ps)
+held_number n [] = refl
+held_number n (p ∷ ps) = turn (is_idle p.state) (held_number n ps)
+  where
+    turn : (t : Bool) {b : Bool} → b ≡ has_number n (held ps)
+        → ((not t && eqb p.number n) || b) ≡ has_number n (cond t (held ps) (p ∷ held ps))
+    turn true e = e
+    turn false e = ap (λ (b : Bool). eqb p.number n || b) e
 
-before_distinct : (t : Bool) (p : Place) (ps : List Place)
-    → distinct (before t p ps) ≡ (not (not t && has_number p.number ps) && distinct ps)
-before_distinct true p ps = refl
-before_distinct false p ps = refl
-
-not_not : (t : Bool) → t ≡ not (not t)
-not_not true = refl
-not_not false = refl
-
-before_each : (t : Bool) (p : Place) (ps : List Place) (f : Place → Bool)
-    → each f (before t p ps) ≡ (not (not t && not (f p)) && each f ps)
-before_each true p ps f = refl
-before_each false p ps f = ap (λ (u : Bool). u && each f ps) (not_not (f p))
+pub held_each : (f : Place → Bool) (ps : List Place) → list_all (λ p. is_idle p.state || f p) ps ≡ each f (held ps)
+held_each f [] = refl
+held_each f (p ∷ ps) = turn (is_idle p.state) (held_each f ps)
+  where
+    turn : (t : Bool) {b : Bool} → b ≡ each f (held ps) → ((t || f p) && b) ≡ each f (cond t (held ps) (p ∷ held ps))
+    turn true e = e
+    turn false e = ap (λ (b : Bool). f p && b) e
 
 module _ (ps : List Place) (i : ℕ) (h : i < length ps) where
   abbrev here : Place
@@ -57,33 +59,16 @@ module _ (ps : List Place) (i : ℕ) (h : i < length ps) where
   abbrev rest : List Place
   rest = held (drop (i + 1) ps)
 
-  held_turn : held (drop i ps) ≡ before (is_idle here.state) here rest
-  held_turn = ap held (drop_next ps i idle_place h)
-
-  pub count_turn : {t : Bool} → is_idle here.state ≡ t → length (held (drop i ps)) ≡ cond t 0 1 + length rest
-  count_turn e =
-      ap length held_turn ∙ before_count (is_idle here.state) here rest ∙ ap (λ (t : Bool). cond t 0 1 + length rest) e
-
-  pub number_turn : (n : ℕ) {t : Bool} → (not (is_idle here.state) && eqb here.number n) ≡ t
-      → has_number n (held (drop i ps)) ≡ (t || has_number n rest)
-  number_turn n e =
-      ap (has_number n) held_turn
-      ∙ before_number (is_idle here.state) here rest n
-      ∙ ap (λ (t : Bool). t || has_number n rest) e
-
   pub distinct_turn : {s t : Bool} → is_idle here.state ≡ s → has_number here.number rest ≡ t
       → distinct (held (drop i ps)) ≡ (not (not s && t) && distinct rest)
   distinct_turn e f =
-      ap distinct held_turn
-      ∙ before_distinct (is_idle here.state) here rest
+      ap (λ (l : List Place). distinct (held l)) (drop_next ps i idle_place h)
+      ∙ turn (is_idle here.state)
       ∙ (λ j. not (not (e j) && f j) && distinct rest)
-
-  pub each_turn : (f : Place → Bool) {t : Bool} → (not (is_idle here.state) && not (f here)) ≡ t
-      → each f (held (drop i ps)) ≡ (not t && each f rest)
-  each_turn f e =
-      ap (each f) held_turn
-      ∙ before_each (is_idle here.state) here rest f
-      ∙ ap (λ (t : Bool). not t && each f rest) e
+    where
+      turn : (t : Bool) → distinct (cond t rest (here ∷ rest)) ≡ (not (not t && has_number here.number rest) && distinct rest)
+      turn true = refl
+      turn false = refl
 
 pub held_end : (ps : List Place) (i : ℕ) → length ps ≤ i → held (drop i ps) ≡ []
 held_end ps i h = ap held (drop_of_length-le ps h)

@@ -1,8 +1,7 @@
 -- The quick search for a cell to reuse: what the oldest open view tells of all the others.
---     take_self, take_new, keep_old     the oldest so far, after one more place
---     none_keep                         what the oldest view is past, no open view keeps
---     some_keeps                        what the oldest view keeps, an open place keeps
---     held_if                           without a foreign cell no prepared writer holds a key back
+--     none_keep      what the oldest view is past, no open view keeps
+--     some_keeps     what the oldest view keeps, an open place keeps
+--     none_back      without a foreign cell no prepared writer holds a key back
 -- Assumes nothing.
 use mathlib.Core.Path.{◌≡◌, refl, sym, ap, ◌∙◌}
 use mathlib.Core.Bool.{Bool, true, false, not, ◌&&◌, ◌||◌, true≢false, false≢true, and-false, or-true}
@@ -10,7 +9,7 @@ use mathlib.Core.List.{List, [], ◌∷◌}
 use Prim.Native.Nat.{ℕ, zero, suc, ◌≤◌, ◌<◌}
 use native.Mathlib.Nat.{le_of_suc-le-suc, not-suc-le-zero}
 use native.Mathlib.Omega.{arith}
-use borrow.Author.Tests.{ltb-true, ltb-false, leb-true, le-leb}
+use borrow.Author.Tests.{ltb-true, ltb-false, leb-true, le-leb, lt-ltb, le-ltb, ne_eqb, not-true, eqb-true, eqb-false, eq-eqb}
 use lib.Dec.{eqb, ltb, leb}
 use lib.ListN.{length, get_or}
 use Rattle.cells.specs.declared.Cell.{Cell}
@@ -18,58 +17,91 @@ use Rattle.cells.specs.Cells.{of_key, foreign}
 use Rattle.cells.specs.Rules.{has_cell, newer, between, keeps, foreign_of, foreign_with, has_foreign}
 use Rattle.steps.specs.declared.Place.{Place}
 use Rattle.steps.specs.Record.{all_places, idle_place, is_open, is_prepared}
-use Rattle.steps.specs.Search.{OldestAt}
+use Rattle.std.specs.Prelude.{cond, min, map, Option, Some, None}
+use Rattle.std.specs.Option.{unwrap_or}
+use Rattle.std.specs.List.{filter, fold, reduce, list_any}
+use Rattle.steps.specs.Search.{open_views, oldest_view}
+use Rattle.steps.proofs.Tests.{two, and_left, and_right, and_both, or_neither}
 use Rattle.steps.specs.Spent.{has_place, keeps_at, holds_back, held_back}
+
+-- THE LEAST OF A LIST
+
+-- no number of the list is below it
+fold_least : (a : ℕ) (xs : List ℕ) (m : ℕ) → fold min a xs ≡ m → (m ≤ a) × (list_any (λ x. ltb x m) xs ≡ false)
+fold_least a [] m e = (omega arith, refl)
+fold_least a (x ∷ xs) m e =
+    let f = fold_least (min a x) xs m e in
+    (omega (arith, f.0), or_neither (le-ltb x m (omega (arith, f.0))) f.1)
+
+-- one number of the list is it
+fold_found : (a : ℕ) (xs : List ℕ) (m : ℕ) → fold min a xs ≡ m → (eqb a m || list_any (λ x. eqb x m) xs) ≡ true
+fold_found a [] m e = ap (λ (b : Bool). b || false) (eq-eqb a m e)
+fold_found a (x ∷ xs) m e = turn (eqb a m) (eqb x m) refl refl (fold_found (min a x) xs m e)
+  where
+    turn : (b d : Bool) → eqb a m ≡ b → eqb x m ≡ d → (eqb (min a x) m || list_any (λ x. eqb x m) xs) ≡ true
+        → (b || (d || list_any (λ x. eqb x m) xs)) ≡ true
+    turn true d p q i = refl
+    turn false true p q i = refl
+    turn false false p q i =
+        let neither = ne_eqb (min a x) m (λ h. omega (arith, eqb-false a m p, eqb-false x m q)) in
+        ap (λ (b : Bool). b || list_any (λ x. eqb x m) xs) (sym neither) ∙ i
 
 -- THE OLDEST OPEN PLACE
 
--- if p is open, so is q, and its view is no later
-abbrev pub Older : Place → Place → Type 0
-Older q p = is_open p.state ≡ true → (is_open q.state ≡ true) × (q.view ≤ p.view)
+-- a test of the views of the open places
+open_any : (f : ℕ → Bool) (ps : List Place) → has_place (λ p. is_open p.state && f p.view) ps ≡ list_any f (open_views ps)
+unfolding has_place
+open_any f [] = refl
+open_any f (p ∷ ps) = turn (is_open p.state) (open_any f ps)
+  where
+    turn : (t : Bool) {b : Bool} → b ≡ list_any f (open_views ps)
+        → ((t && f p.view) || b) ≡ list_any f (map (λ (p : Place). p.view) (cond t (p ∷ filter (λ p. is_open p.state) ps) (filter (λ p. is_open p.state) ps)))
+    turn true e = ap (λ (b : Bool). f p.view || b) e
+    turn false e = e
 
-pub take_self : (p : Place) → Older p p
-take_self p o = (o, omega arith)
+none_below : (ps : List Place) (o : Option ℕ) → oldest_view ps ≡ o
+    → has_place (λ p. is_open p.state && ltb p.view (unwrap_or o 0)) ps ≡ false
+none_below ps o e = open_any (λ x. ltb x (unwrap_or o 0)) ps ∙ by_views (open_views ps) o e
+  where
+    by_views : (xs : List ℕ) (o : Option ℕ) → reduce min xs ≡ o → list_any (λ x. ltb x (unwrap_or o 0)) xs ≡ false
+    by_views [] o e = refl
+    by_views (x ∷ xs) None e = absurd (let z : ◌≡◌ {A = Option ℕ} (Some (fold min x xs)) None = e in cc)
+    by_views (x ∷ xs) (Some m) e =
+        let f = fold_least x xs m (cc) in
+        or_neither (le-ltb x m f.0) f.1
 
--- the test of one more place p beside the oldest so far, q
-abbrev test : Bool → Bool → Place → Place → Bool
-test a b p q = a && (not b || ltb p.view q.view)
-
-new_cases : (a b : Bool) (p q x : Place) → test a b p q ≡ true → a ≡ is_open p.state → b ≡ true → q.view ≤ x.view
-    → (is_open p.state ≡ true) × (p.view ≤ x.view)
-new_cases false b p q x t e f l = absurd (false≢true t)
-new_cases true false p q x t e f l = absurd (false≢true f)
-new_cases true true p q x t e f l = (sym e, omega (arith, ltb-true p.view q.view t))
-
--- p takes q's place: what q was older than, p is
-pub take_new : (p q : Place) {a b : Bool} → a ≡ is_open p.state → b ≡ is_open q.state → test a b p q ≡ true
-    → (x : Place) → Older q x → Older p x
-take_new p q {a} {b} e f t x older o = new_cases a b p q x t e (f ∙ (older o).0) (older o).1
-
-old_cases : (a b : Bool) (p q : Place) → test a b p q ≡ false → a ≡ true → b ≡ is_open q.state
-    → (is_open q.state ≡ true) × (q.view ≤ p.view)
-old_cases false b p q t e f = absurd (false≢true e)
-old_cases true false p q t e f = absurd (true≢false t)
-old_cases true true p q t e f = (sym f, ltb-false p.view q.view t)
-
--- q keeps its place: it is older than p
-pub keep_old : (p q : Place) {a b : Bool} → a ≡ is_open p.state → b ≡ is_open q.state → test a b p q ≡ false → Older q p
-keep_old p q {a} {b} e f t o = old_cases a b p q t (e ∙ o) f
+one_at : (ps : List Place) (m : ℕ) → oldest_view ps ≡ Some m → has_place (λ p. is_open p.state && eqb p.view m) ps ≡ true
+one_at ps m e = open_any (λ x. eqb x m) ps ∙ by_views (open_views ps) e
+  where
+    by_views : (xs : List ℕ) → reduce min xs ≡ Some m → list_any (λ x. eqb x m) xs ≡ true
+    by_views [] e = absurd (let z : ◌≡◌ {A = Option ℕ} None (Some m) = e in cc)
+    by_views (x ∷ xs) e = fold_found x xs m (cc)
 
 -- WHAT ITS VIEW TELLS
 
-no_place : (q : Place → Bool) (ps : List Place) → ((k : ℕ) → k < length ps → q (get_or ps k idle_place) ≡ false)
-    → has_place q ps ≡ false
+-- what passes one test passes another: of places
+place_more : (p q : Place → Bool) → ((x : Place) → p x ≡ true → q x ≡ true) → (ps : List Place) → has_place p ps ≡ true
+    → has_place q ps ≡ true
 unfolding has_place
-no_place q [] h = refl
-no_place q (p ∷ ps) h = λ i. h 0 (omega arith) i || no_place q ps (λ k l. h (suc k) (omega arith)) i
+place_more p q f [] e = e
+place_more p q f (x ∷ ps) e = by_first (p x) refl e (place_more p q f ps)
+  where
+    by_first : (b : Bool) → p x ≡ b → (b || has_place p ps) ≡ true → (has_place p ps ≡ true → has_place q ps ≡ true)
+        → (q x || has_place q ps) ≡ true
+    by_first true g e rest = ap (λ (b : Bool). b || has_place q ps) (f x g)
+    by_first false g e rest = ap (λ (b : Bool). q x || b) (rest e) ∙ or-true (q x)
 
-a_place : (q : Place → Bool) (ps : List Place) (k : ℕ) → k < length ps → q (get_or ps k idle_place) ≡ true → has_place q ps ≡ true
+-- what each place that passes a test tells
+place_tells : {P : Type 0} (q : Place → Bool) → ((x : Place) → q x ≡ true → P) → (ps : List Place) → has_place q ps ≡ true → P
 unfolding has_place
-a_place q [] k l e = absurd (not-suc-le-zero l)
-a_place q (p ∷ ps) zero l e = ap (λ (b : Bool). b || has_place q ps) e
-a_place q (p ∷ ps) (suc k) l e = ap (λ (b : Bool). q p || b) (a_place q ps k (le_of_suc-le-suc l) e) ∙ or-true (q p)
+place_tells q f [] e = absurd (false≢true e)
+place_tells {P} q f (x ∷ ps) e = by_first (q x) refl e (place_tells q f ps)
+  where
+    by_first : (b : Bool) → q x ≡ b → (b || has_place q ps) ≡ true → (has_place q ps ≡ true → P) → P
+    by_first true g e rest = f x g
+    by_first false g e rest = rest e
 
--- what passes one test passes another
+-- what passes one test passes another: of cells
 has_more : (p q : Cell → Bool) → ((d : Cell) → p d ≡ true → q d ≡ true) → (cs : List Cell) → has_cell p cs ≡ true
     → has_cell q cs ≡ true
 unfolding has_cell
@@ -89,22 +121,44 @@ between_later c m W h d = by_newer (newer c d)
     by_newer false e = e
     by_newer true e = le-leb d.commit W (omega (arith, leb-true d.commit m e))
 
-module _ (ps : List Place) (r : ℕ) (oldest : OldestAt ps r) (long : length ps ≡ all_places) (cs : List Cell) (c : Cell) where
-  past_view : has_cell (between c (get_or ps r idle_place).view) cs ≡ true → (k : ℕ) → k < length ps
-      → (b : Bool) → is_open (get_or ps k idle_place).state ≡ b → (b && keeps cs c (get_or ps k idle_place).view) ≡ false
-  past_view e k l false o = refl
-  past_view e k l true o =
-      let W = (get_or ps k idle_place).view in
-      let seen = has_more (between c (get_or ps r idle_place).view) (between c W)
-      (between_later c (get_or ps r idle_place).view W (oldest.least k (omega arith) o)) cs e in
-      ap (λ (b : Bool). leb c.commit W && not b) seen ∙ and-false (leb c.commit W)
+module _ (ps : List Place) (cs : List Cell) (c : Cell) where
+  module _ (o : Option ℕ) (past : has_cell (between c (unwrap_or o 0)) cs ≡ true) where
+    abbrev view : ℕ
+    view = unwrap_or o 0
 
-  pub none_keep : has_cell (between c (get_or ps r idle_place).view) cs ≡ true → has_place (keeps_at cs c) ps ≡ false
-  none_keep e = no_place (keeps_at cs c) ps (λ k l. past_view e k l (is_open (get_or ps k idle_place).state) refl)
+    abbrev below : Place → Bool
+    below p = is_open p.state && ltb p.view view
 
-  pub some_keeps : is_open (get_or ps r idle_place).state ≡ true → keeps cs c (get_or ps r idle_place).view ≡ true
-      → has_place (keeps_at cs c) ps ≡ true
-  some_keeps o e = a_place (keeps_at cs c) ps r (omega (arith, oldest.inside)) (λ i. o i && e i)
+    kept_below : (p : Place) → keeps_at cs c p ≡ true → below p ≡ true
+    kept_below p k = by_view (ltb p.view view) refl
+      where
+        seen : view ≤ p.view → has_cell (between c p.view) cs ≡ true
+        seen l = has_more (between c view) (between c p.view) (between_later c view p.view l) cs past
+
+        kept : keeps cs c p.view ≡ true
+        kept = and_right (is_open p.state) (keeps cs c p.view) k
+
+        none : has_cell (between c p.view) cs ≡ false
+        none = not-true _ (and_right (leb c.commit p.view) (not (has_cell (between c p.view) cs)) kept)
+
+        by_view : (b : Bool) → ltb p.view view ≡ b → below p ≡ true
+        by_view true e = and_both (and_left (is_open p.state) (keeps cs c p.view) k) e
+        by_view false e = absurd (true≢false (sym (seen (ltb-false p.view view e)) ∙ none))
+
+    pub none_keep : oldest_view ps ≡ o → has_place (keeps_at cs c) ps ≡ false
+    none_keep e = by_kept (has_place (keeps_at cs c) ps) refl
+      where
+        by_kept : (b : Bool) → has_place (keeps_at cs c) ps ≡ b → b ≡ false
+        by_kept false f = refl
+        by_kept true f = absurd (true≢false (sym (place_more (keeps_at cs c) below kept_below ps f) ∙ none_below ps o e))
+
+  pub some_keeps : (view : ℕ) → oldest_view ps ≡ Some view → keeps cs c view ≡ true → has_place (keeps_at cs c) ps ≡ true
+  some_keeps view e k = place_more (λ p. is_open p.state && eqb p.view view) (keeps_at cs c) here ps (one_at ps view e)
+    where
+      here : (p : Place) → (is_open p.state && eqb p.view view) ≡ true → keeps_at cs c p ≡ true
+      here p f =
+          let same = eqb-true p.view view (and_right (is_open p.state) (eqb p.view view) f) in
+          and_both (and_left (is_open p.state) (eqb p.view view) f) (ap (keeps cs c) same ∙ k)
 
 -- A PREPARED WRITER
 
@@ -122,19 +176,13 @@ module _ (key number : ℕ) (ps : List Place) (cs : List Cell) where
   unfolding has_foreign foreign_with
   foreign_seen other e = has_more (foreign_of key number other) (λ c. of_key key c && foreign number c) (foreign_too other) cs e
 
-  none_held : has_foreign key number cs ≡ false → (p : Place) → holds_back key number cs p ≡ false
-  none_held h p = by_place (is_prepared p.state) (foreign_with key number p.number cs) refl
-    where
-      by_place : (a b : Bool) → foreign_with key number p.number cs ≡ b → (a && b) ≡ false
-      by_place false b e = refl
-      by_place true false e = refl
-      by_place true true e = absurd (true≢false (sym (foreign_seen p.number e) ∙ h))
-
-  pub held_if : (has_foreign key number cs && held_back key number ps cs) ≡ held_back key number ps cs
+  pub none_back : has_foreign key number cs ≡ false → held_back key number ps cs ≡ false
   unfolding held_back
-  held_if = by_foreign (has_foreign key number cs) refl
+  none_back h = by_held (has_place (holds_back key number cs) ps) refl
     where
-      by_foreign : (b : Bool) → has_foreign key number cs ≡ b
-          → (b && has_place (holds_back key number cs) ps) ≡ has_place (holds_back key number cs) ps
-      by_foreign true e = refl
-      by_foreign false e = sym (no_place (holds_back key number cs) ps (λ k l. none_held e (get_or ps k idle_place)))
+      foreign_at : (p : Place) → holds_back key number cs p ≡ true → has_foreign key number cs ≡ true
+      foreign_at p e = foreign_seen p.number (and_right (is_prepared p.state) (foreign_with key number p.number cs) e)
+
+      by_held : (b : Bool) → has_place (holds_back key number cs) ps ≡ b → b ≡ false
+      by_held false e = refl
+      by_held true e = absurd (true≢false (sym (place_tells (holds_back key number cs) foreign_at ps e) ∙ h))

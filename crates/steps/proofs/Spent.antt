@@ -3,9 +3,10 @@
 --     and_is                  two tests in one
 --     free_is                 whether a cell is empty or spent, by four tests
 -- Assumes nothing.
-use mathlib.Core.Path.{◌≡◌}
+use mathlib.Core.Path.{◌≡◌, refl, ap}
 use mathlib.Core.Bool.{Bool, false, not, ◌&&◌, ◌||◌}
-use mathlib.Core.List.{List}
+use mathlib.Core.List.{List, [], ◌∷◌}
+use Rattle.std.specs.List.{list_any}
 use Prim.Native.Nat.{ℕ, ◌+◌, ◌≤◌, ◌<◌}
 use lib.ListN.{length, get_or, drop, drop_of_length-le}
 use Rattle.cells.specs.declared.Cell.{Cell}
@@ -15,6 +16,11 @@ use Rattle.cells.proofs.Laws.{drop_next}
 use Rattle.steps.specs.declared.Place.{Place}
 use Rattle.steps.specs.Record.{idle_place}
 use Rattle.steps.specs.Spent.{has_place, keeps_at, free}
+
+pub has_is_any : (q : Place → Bool) (ps : List Place) → list_any q ps ≡ has_place q ps
+unfolding has_place
+has_is_any q [] = refl
+has_is_any q (p ∷ ps) = ap (λ (b : Bool). q p || b) (has_is_any q ps)
 
 module _ (q : Place → Bool) (ps : List Place) (j : ℕ) where
   pub place_turn : j < length ps → {t : Bool} → q (get_or ps j idle_place) ≡ t

@@ -1,12 +1,13 @@
 -- The contract determines answer, record and every lent word, refusals too: what a step hands back is the only thing that meets it.
 --     unique     what two functions hand back, and the words as they leave them, are equal where both meet a step's contract
 -- Assumes nothing.
+use Rattle.std.specs.Prelude.{Ok, Err}
 use Prim.Native.Nat.{ℕ}
 use mathlib.Core.Path.{◌≡◌, refl, sym, ap, ◌∙◌}
 use mathlib.Core.List.{List}
 use Rattle.records.specs.declared.Call.{Call}
-use Rattle.records.specs.declared.Answer.{Answer}
-use Rattle.records.specs.Answers.{number_of, value_of}
+use Rattle.records.specs.declared.Refusal.{Refusal}
+use Rattle.records.specs.Answers.{Answer, number_of, value_of}
 use Rattle.records.specs.Format.{answer_of}
 use Rattle.steps.specs.declared.Answered.{Answered}
 use Rattle.steps.specs.Store.{Store, Outcome}
@@ -14,19 +15,19 @@ use Rattle.steps.specs.Step.{outcome, step}
 
 -- an answer is the one that its number and its value name
 answer_of_lem : (a : Answer) → answer_of (number_of a) (value_of a) ≡ a
-answer_of_lem (Answer.Ok v) = refl
-answer_of_lem Answer.Board = refl
-answer_of_lem Answer.Place = refl
-answer_of_lem Answer.Busy = refl
-answer_of_lem Answer.Idle = refl
-answer_of_lem Answer.Worn = refl
-answer_of_lem Answer.Spoiled = refl
-answer_of_lem Answer.Held = refl
-answer_of_lem Answer.Key = refl
-answer_of_lem Answer.Conflict = refl
-answer_of_lem Answer.Prepared = refl
-answer_of_lem Answer.Full = refl
-answer_of_lem Answer.Record = refl
+answer_of_lem (Ok v) = refl
+answer_of_lem (Err Refusal.Board) = refl
+answer_of_lem (Err Refusal.Place) = refl
+answer_of_lem (Err Refusal.Busy) = refl
+answer_of_lem (Err Refusal.Idle) = refl
+answer_of_lem (Err Refusal.Worn) = refl
+answer_of_lem (Err Refusal.Spoiled) = refl
+answer_of_lem (Err Refusal.Held) = refl
+answer_of_lem (Err Refusal.Key) = refl
+answer_of_lem (Err Refusal.Conflict) = refl
+answer_of_lem (Err Refusal.Prepared) = refl
+answer_of_lem (Err Refusal.Full) = refl
+answer_of_lem (Err Refusal.Record) = refl
 
 -- the whole of what was handed back can be read off an outcome
 answered_of : Outcome → Answered

@@ -1,8 +1,7 @@
 -- Where cells meet places: which cells are spent, and which write a prepared place holds back.
 -- Assumes nothing.
-use Rattle.std.specs.Prelude.{Bool, false, not, ◌&&◌, ◌||◌, List, [], ◌∷◌, ℕ}
+use Rattle.std.specs.Prelude.{Bool, false, not, ◌&&◌, ◌||◌, List, [], ◌∷◌, ℕ, Option}
 use Rattle.cells.specs.declared.Cell.{Cell}
-use Rattle.cells.specs.declared.Found.{Found}
 use Rattle.cells.specs.Cells.{empty, committed}
 use Rattle.cells.specs.Rules.{lowest_from, has_cell, newer, keeps, foreign_with}
 use Rattle.steps.specs.declared.Place.{Place}
@@ -27,7 +26,7 @@ abbrev pub free : List Place → List Cell → Cell → Bool
 free ps cs c = empty c || spent ps cs c
 
 -- the lowest-numbered empty or spent cell
-unfoldable pub reusable : List Place → List Cell → Found
+unfoldable pub reusable : List Place → List Cell → Option ℕ
 reusable ps cs = lowest_from 0 (free ps cs) cs
 
 -- the place is prepared, and a foreign cell of the key has its transaction's number

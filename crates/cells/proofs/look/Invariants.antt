@@ -1,15 +1,13 @@
 use mathlib.Core.Path.{◌≡◌}
-use mathlib.Core.Bool.{true}
-use Prim.Native.Nat.{◌-◌, ◌<◌}
-use lib.ListN.{length, get_or, drop}
-use Rattle.cells.specs.Cells.{no_cell, cells_of, of_key}
+use Prim.Native.Nat.{◌-◌}
+use lib.ListN.{length, drop}
+use Rattle.cells.specs.Cells.{cells_of, count_of}
 use Rattle.cells.specs.Search.{no_look, look_from}
 use Rattle.cells.proofs.look.Given as goal
 
-abbrev pub invariant-loop-i : goal.invariant-loop-i
-invariant-loop-i l =
-    (look_from l.key l.number l.view 0 no_look (cells_of l.cells) ≡ look_from l.key l.number l.view l.i l.seen (drop l.i (cells_of l.cells)))
-    × (l.i < length (cells_of l.cells) → of_key l.key (get_or (cells_of l.cells) l.i no_cell) ≡ true)
+abbrev pub invariant-loop-at : goal.invariant-loop-at
+invariant-loop-at l =
+    look_from l.key l.number l.view 0 no_look (cells_of l.cells) ≡ look_from l.key l.number l.view l.from l.seen (drop l.from (cells_of l.cells))
 
-abbrev pub decreases-loop-i : goal.decreases-loop-i
-decreases-loop-i l = l.n - l.i
+abbrev pub decreases-loop-at : goal.decreases-loop-at
+decreases-loop-at l = count_of (length l.cells) - l.from

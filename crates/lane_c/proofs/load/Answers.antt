@@ -1,35 +1,19 @@
--- `lane_c::load` meets its contract. The invariant: the places read are the first of those in the words. Assumes nothing.
+-- `lane_c::load` meets its contract. Assumes nothing.
 use borrow.Author.Rules.{rules}
-use mathlib.Core.Path.{◌≡◌, refl, sym, ap, ◌∙◌}
+use mathlib.Core.Path.{◌≡◌, ap, ◌∙◌}
+use mathlib.Core.List.{[], map}
 use native.Mathlib.Omega.{arith}
-use lib.ListN.{length}
-use Rattle.steps.specs.declared.Board.{Board}
-use Rattle.steps.specs.Record.{idle_place}
+use Rattle.steps.specs.Record.{all_places}
 use Rattle.lane_c.specs.Words.{place_of_words, places_of, record_of}
-use Rattle.lane_c.proofs.Blocks.{take_next, take_whole}
-use Rattle.lane_c.proofs.Words.{length_places, place_at_lem}
+use Rattle.lane_c.proofs.Blocks.{made}
+use Rattle.lane_c.proofs.Words.{whole_blocks}
 use Rattle.lane_c.proofs.load.Goals as goal
 
-pub loop-i-init : goal.loop-i-init
-loop-i-init c = (search rules, (ap (λ (b : Board). length b.places) c.fresh-fresh.ensures, refl))
-
-pub loop-i-preserved : goal.loop-i-preserved
-loop-i-preserved c =
-    let ws = c.args.words.now in
-    let i = c.loop-i.i in (
-      search rules,
-      (
-        search rules,
-        take_next c.loop-i.places (places_of ws) i _ idle_place (search rules) (omega (arith, length_places ws)) c.loop-i.invariant.1.1
-            (c.place_of.ensures ∙ ap place_of_words c.words_at.ensures.0 ∙ sym (place_at_lem ws i (search rules))),
-      ),
-    )
-
 pub returns : goal.returns
-unfolding record_of
+unfolding record_of places_of
 returns c =
     let ws = c.args.words.now in
-    let e : c.loop-i.places ≡ places_of ws =
-    take_whole c.loop-i.places (places_of ws) c.loop-i.i (search rules) (omega (arith, length_places ws)) c.loop-i.invariant.1.1
-    in
-    rw e
+    let blocks = c.as_chunks.result.0.now in
+    let read : c.from_fn.result ≡ map place_of_words blocks =
+    made _ _ c.from_fn.result place_of_words blocks [] all_places (λ i y q lt r. search rules) (omega arith) c.from_fn.ensures.items in
+    rw (read ∙ ap (map place_of_words) (c.as_chunks.ensures.front ∙ whole_blocks ws c.requires))

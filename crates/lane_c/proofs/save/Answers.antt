@@ -1,39 +1,23 @@
--- `lane_c::save` meets its contract. The invariant: the words written are those of the first places. Assumes nothing.
-use borrow.Author.Rules.{rules}
-use mathlib.Core.Path.{refl}
+-- `lane_c::save` meets its contract: a turn writes one place more, and after the last the counts stand behind. Assumes nothing.
+use mathlib.Core.Path.{refl, ◌∙◌}
 use mathlib.Core.List.{flat_map}
 use native.Mathlib.Omega.{arith}
-use lib.ListN.{length-set}
 use Rattle.steps.proofs.Places.{long}
 use Rattle.lane_c.specs.Words.{words_of_places}
-use Rattle.lane_c.proofs.Words.{span, length_at, save_turn, save_end}
+use Rattle.lane_c.proofs.Words.{save_turn, save_end}
 use Rattle.lane_c.proofs.save.Goals as goal
 
 pub loop-i-init : goal.loop-i-init
 unfolding words_of_places flat_map
-loop-i-init c = (search rules, (search rules, refl))
-
-pub put_place-requires : goal.put_place-requires
-put_place-requires c =
-    let at = c.loop-i in rw (span at.i) (length_at at.words at.i at.invariant.1.0 (search rules))
+loop-i-init c = refl
 
 pub loop-i-preserved : goal.loop-i-preserved
 loop-i-preserved c =
-    let l = c.loop-i.words in
-    let b = c.args.b in (
-      search rules,
-      (
-        search rules,
-        save_turn l c.loop-i.invariant.1.0 b (search long) c.loop-i.i c.loop-i.invariant.1.1 _ _ (search rules)
-            c.put_place.ensures,
-      ),
-    )
-
-pub shape_of-words : goal.shape_of-words
-shape_of-words c = simp length-set (omega arith)
+    let l = c.loop-i in
+    save_turn l.words (omega arith) c.args.b (search long) l.i l.invariant _ _ (omega arith)
+    (c.copy_from_slice.ensures.after ∙ c.words_of.ensures)
 
 pub returns : goal.returns
 returns c =
-    let at = c.loop-i in
-    let b = c.args.b in
-    save_end at.words at.invariant.1.0 b (search long) at.i at.invariant.1.1 (search rules)
+    let l = c.loop-i in
+    save_end l.words (omega arith) c.args.b (search long) l.i l.invariant (omega arith)

@@ -1,13 +1,10 @@
 -- `turn_on` meets its contract: what it calls comes to `turn_is` of `Turns`. Assumes nothing.
-use mathlib.Core.Path.{sym, subst⁻¹}
-use mathlib.Core.List.{List}
-use Prim.Native.Nat.{ℕ, ◌≤◌}
+use mathlib.Core.Path.{refl, sym, ◌∙◌}
 use native.Mathlib.Omega.{arith}
-use lib.ListN.{length, take}
 use lib.Seq.{length-take-le}
 use Rattle.steps.specs.Store.{lent}
-use Rattle.lanes.specs.Serve.{Serving}
-use Rattle.lanes.proofs.Turns.{taken_in, turn_is}
+use Rattle.lanes.proofs.Moves.{moved}
+use Rattle.lanes.proofs.Turns.{taken_there, turn_is}
 use Rattle.lanes.proofs.turn_on.Goals as goal
 
 pub slice_bounds-serve-end-2 : goal.slice_bounds-serve-end-2
@@ -15,16 +12,21 @@ slice_bounds-serve-end-2 c =
     let s = c.args in
     sym (length-take-le s.have s.bytes.now (omega arith))
 
-pub carry-left-requires : goal.carry-left-requires
-carry-left-requires c =
-    let part : List ℕ = take c.args.have c.args.bytes.now in
-    let there : c.serve-s.result.taken ≤ length part =
-    subst⁻¹ (λ (o : Serving). o.taken ≤ length part) c.serve-s.ensures
-    (taken_in (lent c.args.board c.args.cells.now) part c.args.answers.now) in
-    (omega (arith, length-take-le c.args.have c.args.bytes.now c.requires.0), omega arith)
+pub copy_within-requires-clause-start_le_end : goal.copy_within-requires-clause-start_le_end
+copy_within-requires-clause-start_le_end c =
+    taken_there (lent c.args.board c.args.cells.now) c.args.bytes.now c.args.have c.args.answers.now c.requires.0 c.requires.1
+    c.serve-s.result c.serve-s.new.cells c.serve-s.new.answers c.serve-s.ensures
+
+pub overflow_sub-result : goal.overflow_sub-result
+overflow_sub-result c =
+    taken_there (lent c.args.board c.args.cells.now) c.args.bytes.now c.args.have c.args.answers.now c.requires.0 c.requires.1
+    c.serve-s.result c.serve-s.new.cells c.serve-s.new.answers c.serve-s.ensures
 
 pub returns : goal.returns
 returns c =
-    turn_is (lent c.args.board c.args.cells.now) c.args.bytes.now c.args.have c.args.answers.now c.requires.0 c.requires.1
-    c.serve-s.result c.serve-s.new.cells c.carry-left.new.bytes c.serve-s.new.answers c.carry-left.result c.more_after.result
-    c.serve-s.ensures c.carry-left.ensures.0 c.carry-left.ensures.1 c.more_after.ensures
+    let st = lent c.args.board c.args.cells.now in
+    let s = c.serve-s.result in
+    let t = taken_there st c.args.bytes.now c.args.have c.args.answers.now c.requires.0 c.requires.1 s c.serve-s.new.cells c.serve-s.new.answers c.serve-s.ensures in
+    turn_is st c.args.bytes.now c.args.have c.args.answers.now c.requires.0 c.requires.1
+    s c.serve-s.new.cells c.copy_within.new.self c.serve-s.new.answers _ c.more_after.result
+    c.serve-s.ensures refl (c.copy_within.ensures.after ∙ moved c.args.bytes.now s.taken c.args.have t c.requires.0) c.more_after.ensures

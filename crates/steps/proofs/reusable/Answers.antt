@@ -2,14 +2,16 @@
 -- Inner invariant: a place that keeps the cell is one of those yet to be looked at. The tables settle most cells before it.
 -- Assumes nothing.
 use mathlib.Core.Path.{◌≡◌, refl, sym, ap, ◌∙◌}
-use mathlib.Core.Bool.{Bool, true, false, not}
+use mathlib.Core.Bool.{Bool, true, false, not, true≢false}
 use mathlib.Core.List.{List}
 use Prim.Native.Nat.{ℕ, ◌+◌, ◌/◌, ◌<◌}
 use native.Mathlib.Omega.{arith}
 use borrow.Author.Rules.{rules}
+use borrow.Author.Tests.{tests}
 use lib.Dec.{ltb}
 use lib.ListN.{length, get_or, drop}
-use Rattle.cells.specs.declared.Found.{Found}
+use Rattle.std.specs.Prelude.{Option, Some, None, MatchOption}
+use Rattle.std.specs.Option.{unwrap_or}
 use Rattle.cells.specs.declared.Tops.{Tops}
 use Rattle.cells.specs.declared.Cell.{Cell}
 use Rattle.cells.specs.Cells.{no_cell, cells_of, empty, committed}
@@ -28,7 +30,7 @@ use Rattle.steps.proofs.reusable.Goals as goal
 -- at a cell that is read: whether it is free settles the turn
 module _ (ws : List ℕ) (ps : List Place) {i : ℕ} {c : Cell} (h : i < length ws / 4) (e : c ≡ get_or (cells_of ws) i no_cell)
     (left : reusable ps (cells_of ws) ≡ lowest_from i (free ps (cells_of ws)) (drop i (cells_of ws))) where
-  here : free ps (cells_of ws) c ≡ true → Found.At i ≡ reusable ps (cells_of ws)
+  here : free ps (cells_of ws) c ≡ true → Some i ≡ reusable ps (cells_of ws)
   here f = sym (left ∙ lowest_here ws i h (free ps (cells_of ws)) (sym (ap (free ps (cells_of ws)) e) ∙ f))
 
   next : free ps (cells_of ws) c ≡ false
@@ -45,31 +47,30 @@ kept_or_free ps cs x view tops made empty_is filled committed_is sealed outdated
     let f = sym empty_is ∙ filled in
     free_is ps cs x f (sym committed_is ∙ sealed) (sym (tables_tell cs x f).outdated ∙ sym told ∙ sym outdated_is ∙ old) kept
 
-pub bounds-places-oldest_open : goal.bounds-places-oldest_open
-bounds-places-oldest_open c =
-    let h : length c.args.places ≡ all_places = search rules in
-    omega (arith, c.oldest_open.ensures.inside)
+-- what `is_some_and` tells where it answers true
+some_and : (t : ℕ → Bool) (o : Option ℕ) {r : Bool} {Q : ℕ → Type 0} → MatchOption o (r ≡ false) Q → ((v : ℕ) → Q v → r ≡ t v) → r ≡ true
+    → (v : ℕ) × ((o ≡ Some v) × (t v ≡ true))
+some_and t (Some v) m f e = (v, (refl, sym (f v m) ∙ e))
+some_and t None m f e = absurd (true≢false (sym e ∙ m))
 
 pub cells-init : goal.cells-init
 unfolding reusable
-cells-init c = (search rules, refl)
+cells-init c = refl
 
 pub returns-then-empty : goal.returns-then-empty
 returns-then-empty c =
     let a = c.args in
     let e = sym c.«empty».ensures ∙ c.if-empty.true in
-    here a.cells.now a.places (search rules) c.cell_at-c.ensures c.cells.invariant.1
+    here a.cells.now a.places (search rules) c.cell_at-c.ensures c.cells.invariant
     (free_is a.places (cells_of a.cells.now) c.cell_at-c.result e refl refl refl)
 
 pub cells-preserved-then-not-committed : goal.cells-preserved-then-not-committed
 cells-preserved-then-not-committed c =
     let a = c.args in
     let e = sym c.«empty».ensures ∙ c.if-empty.false in
-    let f = sym c.committed.ensures ∙ c.if-not-committed.true in (
-      search rules,
-      next a.cells.now a.places (search rules) c.cell_at-c.ensures c.cells.invariant.1
-          (free_is a.places (cells_of a.cells.now) c.cell_at-c.result e f refl refl),
-    )
+    let f = sym c.committed.ensures ∙ c.if-not-committed.true in
+    next a.cells.now a.places (search rules) c.cell_at-c.ensures c.cells.invariant
+    (free_is a.places (cells_of a.cells.now) c.cell_at-c.result e f refl refl)
 
 pub cells-preserved-then-not-outdated_by : goal.cells-preserved-then-not-outdated_by
 cells-preserved-then-not-outdated_by c =
@@ -78,12 +79,10 @@ cells-preserved-then-not-outdated_by c =
     let x = c.cell_at-c.result in
     let e = sym c.«empty».ensures ∙ c.if-empty.false in
     let f = sym c.committed.ensures ∙ c.if-not-committed.false in
-    let told = ap (λ (t : Tops). outdated_by t.all cs x) c.tops_of-tops.ensures in
-    let g = sym (tables_tell cs x e).outdated ∙ sym told ∙ sym c.outdated_by.ensures ∙ c.if-not-outdated_by.true in (
-      search rules,
-      next a.cells.now a.places (search rules) c.cell_at-c.ensures c.cells.invariant.1
-          (free_is a.places cs x e f g refl),
-    )
+    let told = ap (λ (t : Tops). outdated_by t.all cs x) c.tops_of.ensures in
+    let g = sym (tables_tell cs x e).outdated ∙ sym told ∙ sym c.outdated_by.ensures ∙ c.if-not-outdated_by.true in
+    next a.cells.now a.places (search rules) c.cell_at-c.ensures c.cells.invariant
+    (free_is a.places cs x e f g refl)
 
 pub returns-then-surpassed : goal.returns-then-surpassed
 returns-then-surpassed c =
@@ -91,48 +90,44 @@ returns-then-surpassed c =
     let cs = cells_of a.cells.now in
     let x = c.cell_at-c.result in
     let filled : empty x ≡ false = sym c.«empty».ensures ∙ c.if-empty.false in
-    let o = c.oldest_open in
-    let h : length a.places ≡ all_places = search rules in
-    let told = ap (λ (t : Tops). surpassed_in t.seen x) c.tops_of-tops.ensures in
-    let view = (get_or a.places o.result idle_place).view in
+    let o = c.oldest_view-oldest in
+    let view = c.unwrap_or.result in
+    let told = ap (λ (t : Tops). surpassed_in t.seen x) c.tops_of.ensures in
     let e = sym told ∙ sym c.surpassed.ensures ∙ c.if-surpassed.true in
     let past = and_right (ltb x.word all_tops) (has_cell (between x view) cs) (sym ((tables_tell cs x filled).surpassed view) ∙ e) in
-    here a.cells.now a.places (search rules) c.cell_at-c.ensures c.cells.invariant.1
-    (kept_or_free a.places cs x _ c.tops_of-tops.result c.tops_of-tops.ensures c.«empty».ensures c.if-empty.false
-    c.committed.ensures c.if-not-committed.false c.outdated_by.ensures c.if-not-outdated_by.false (none_keep a.places o.result o.ensures h cs x past))
+    let past_oldest = ap (λ (v : ℕ). has_cell (between x v) cs) (sym c.unwrap_or.ensures) ∙ past in
+    here a.cells.now a.places (search rules) c.cell_at-c.ensures c.cells.invariant
+    (kept_or_free a.places cs x _ c.tops_of.result c.tops_of.ensures c.«empty».ensures c.if-empty.false
+    c.committed.ensures c.if-not-committed.false c.outdated_by.ensures c.if-not-outdated_by.false
+    (none_keep a.places cs x o.result past_oldest (sym o.ensures)))
 
-pub cells-preserved-then-is_open-held_by : goal.cells-preserved-then-is_open-held_by
-cells-preserved-then-is_open-held_by c =
+pub cells-preserved-then-is_some_and : goal.cells-preserved-then-is_some_and
+cells-preserved-then-is_some_and c =
     let a = c.args in
     let cs = cells_of a.cells.now in
     let x = c.cell_at-c.result in
     let filled : empty x ≡ false = sym c.«empty».ensures ∙ c.if-empty.false in
-    let o = c.oldest_open in
-    let h : length a.places ≡ all_places = search rules in
-    let p = get_or a.places o.result idle_place in
-    let told = ap (λ (t : Tops). held_in t.seen x p.view) c.tops_of-tops.ensures in
-    let u = c.is_open in
-    let v = c.held_by in
-    let e = sym told ∙ sym v.ensures ∙ and_right u.result v.result c.if-is_open-held_by.true in
-    let is_open = sym u.ensures ∙ and_left u.result v.result c.if-is_open-held_by.true in
-    let held = and_right (ltb x.word all_tops) (keeps cs x p.view) (sym ((tables_tell cs x filled).held p.view) ∙ e) in
-    let kept = some_keeps a.places o.result o.ensures h cs x is_open held in (
-      search rules,
-      next a.cells.now a.places (search rules) c.cell_at-c.ensures c.cells.invariant.1
-          (kept_or_free a.places cs x _ c.tops_of-tops.result c.tops_of-tops.ensures c.«empty».ensures c.if-empty.false
-          c.committed.ensures c.if-not-committed.false c.outdated_by.ensures c.if-not-outdated_by.false kept),
-    )
+    let o = c.oldest_view-oldest in
+    let s = some_and (held_in c.tops_of.result.seen x) o.result c.is_some_and.ensures (λ v k. search (rules, tests)) c.if-is_some_and.true in
+    let view = s.0 in
+    let same = c.unwrap_or.ensures ∙ ap (λ (o : Option ℕ). unwrap_or o 0) s.1.0 in
+    let told = ap (λ (t : Tops). held_in t.seen x view) c.tops_of.ensures ∙ ap (λ (v : ℕ). held_in (tops_of (up_to v) cs) x view) same in
+    let held = and_right (ltb x.word all_tops) (keeps cs x view) (sym ((tables_tell cs x filled).held view) ∙ sym told ∙ s.1.1) in
+    next a.cells.now a.places (search rules) c.cell_at-c.ensures c.cells.invariant
+    (kept_or_free a.places cs x _ c.tops_of.result c.tops_of.ensures c.«empty».ensures c.if-empty.false
+    c.committed.ensures c.if-not-committed.false c.outdated_by.ensures c.if-not-outdated_by.false
+    (some_keeps a.places cs x view (sym o.ensures ∙ s.1.0) held))
 
 pub places-init : goal.places-init
-places-init c = (search rules, refl)
+places-init c = refl
 
 pub places-preserved-then-not-is_open : goal.places-preserved-then-not-is_open
 places-preserved-then-not-is_open c =
     let a = c.args in
     let h : length a.places ≡ all_places = search rules in
     let q = keeps_at (cells_of a.cells.now) c.cell_at-c.result in
-    let e = sym c.is_open-in-places.ensures ∙ c.if-not-is_open.true in
-    (search rules, c.places.invariant.1 ∙ place_turn q a.places c.places.j (omega arith) (and_is e refl))
+    let e = sym c.is_open.ensures ∙ c.if-not-is_open.true in
+    c.places.invariant ∙ place_turn q a.places c.places.p-index (omega arith) (and_is e refl)
 
 pub cells-preserved : goal.cells-preserved
 cells-preserved c =
@@ -141,23 +136,21 @@ cells-preserved c =
     let x = c.cell_at-c.result in
     let h : length a.places ≡ all_places = search rules in
     let q = keeps_at cs x in
-    let is_open = sym c.is_open-in-places.ensures ∙ c.if-not-is_open.false in
+    let is_open = sym c.is_open.ensures ∙ c.if-not-is_open.false in
     let e = and_is is_open (sym c.kept.ensures ∙ c.if-kept.true) in
-    let f = c.places.invariant.1 ∙ place_turn q a.places c.places.j (omega arith) e in (
-      search rules,
-      next a.cells.now a.places (search rules) c.cell_at-c.ensures c.cells.invariant.1
-          (kept_or_free a.places cs x _ c.tops_of-tops.result c.tops_of-tops.ensures c.«empty».ensures c.if-empty.false
-          c.committed.ensures c.if-not-committed.false c.outdated_by.ensures c.if-not-outdated_by.false f),
-    )
+    let f = c.places.invariant ∙ place_turn q a.places c.places.p-index (omega arith) e in
+    next a.cells.now a.places (search rules) c.cell_at-c.ensures c.cells.invariant
+    (kept_or_free a.places cs x _ c.tops_of.result c.tops_of.ensures c.«empty».ensures c.if-empty.false
+    c.committed.ensures c.if-not-committed.false c.outdated_by.ensures c.if-not-outdated_by.false f)
 
 pub places-preserved : goal.places-preserved
 places-preserved c =
     let a = c.args in
     let h : length a.places ≡ all_places = search rules in
     let q = keeps_at (cells_of a.cells.now) c.cell_at-c.result in
-    let is_open = sym c.is_open-in-places.ensures ∙ c.if-not-is_open.false in
+    let is_open = sym c.is_open.ensures ∙ c.if-not-is_open.false in
     let e = and_is is_open (sym c.kept.ensures ∙ c.if-kept.false) in
-    (search rules, c.places.invariant.1 ∙ place_turn q a.places c.places.j (omega arith) e)
+    c.places.invariant ∙ place_turn q a.places c.places.p-index (omega arith) e
 
 pub returns-in-cells : goal.returns-in-cells
 returns-in-cells c =
@@ -166,13 +159,13 @@ returns-in-cells c =
     let x = c.cell_at-c.result in
     let h : length a.places ≡ all_places = search rules in
     let q = keeps_at cs x in
-    let none = c.places.invariant.1 ∙ place_end q a.places c.places.j (omega arith) in
-    here a.cells.now a.places (search rules) c.cell_at-c.ensures c.cells.invariant.1
-    (kept_or_free a.places cs x _ c.tops_of-tops.result c.tops_of-tops.ensures c.«empty».ensures c.if-empty.false
+    let none = c.places.invariant ∙ place_end q a.places c.places.p-index (omega arith) in
+    here a.cells.now a.places (search rules) c.cell_at-c.ensures c.cells.invariant
+    (kept_or_free a.places cs x _ c.tops_of.result c.tops_of.ensures c.«empty».ensures c.if-empty.false
     c.committed.ensures c.if-not-committed.false c.outdated_by.ensures c.if-not-outdated_by.false none)
 
 pub returns : goal.returns
 returns c =
     let a = c.args in
     let l = c.cells in
-    sym (l.invariant.1 ∙ lowest_end a.cells.now l.i (search rules) (free a.places (cells_of a.cells.now)))
+    sym (l.invariant ∙ lowest_end a.cells.now l.at (search rules) (free a.places (cells_of a.cells.now)))

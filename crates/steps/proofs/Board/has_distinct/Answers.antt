@@ -6,33 +6,29 @@ use lib.ListN.{length}
 use Rattle.steps.specs.Record.{all_places}
 use Rattle.steps.specs.Shape.{distinct}
 use Rattle.steps.proofs.Places.{long, distinct_turn, held_end}
+use Rattle.steps.proofs.Board.has_distinct.Goals.{else-not-is_idle-via-then-not-is_idle+else-has_number, else-not-is_idle-via-else-not-is_idle}
 use Rattle.steps.proofs.Board.has_distinct.Goals as goal
-
-pub loop-i-init : goal.loop-i-init
-loop-i-init c = refl
-
-pub loop-i-preserved-then-is_idle : goal.loop-i-preserved-then-is_idle
-loop-i-preserved-then-is_idle c =
-    let ps = c.args.self.places in
-    let h : length ps ≡ all_places = search long in
-    c.loop-i.invariant
-    ∙ distinct_turn ps c.loop-i.i (omega arith) (sym c.is_idle.ensures ∙ c.if-is_idle.true) refl
 
 pub returns-then-has_number : goal.returns-then-has_number
 returns-then-has_number c =
     let ps = c.args.self.places in
     let h : length ps ≡ all_places = search long in
-    let idle = sym c.is_idle.ensures ∙ c.if-is_idle.false in
+    let held = sym c.is_idle.ensures ∙ c.if-not-is_idle.true in
     let same = sym c.has_number.ensures ∙ c.if-has_number.true in
-    sym (c.loop-i.invariant ∙ distinct_turn ps c.loop-i.i (omega arith) idle same)
+    sym (c.loop-i.invariant ∙ distinct_turn ps c.loop-i.i (omega arith) held same)
 
 pub loop-i-preserved : goal.loop-i-preserved
 loop-i-preserved c =
     let ps = c.args.self.places in
     let h : length ps ≡ all_places = search long in
-    let idle = sym c.is_idle.ensures ∙ c.if-is_idle.false in
-    let same = sym c.has_number.ensures ∙ c.if-has_number.false in
-    c.loop-i.invariant ∙ distinct_turn ps c.loop-i.i (omega arith) idle same
+    c.loop-i.invariant
+    ∙ elim c.else-not-is_idle.branch [
+      | else-not-is_idle-via-then-not-is_idle+else-has_number w ↦
+          let held = sym c.is_idle.ensures ∙ w.if-not-is_idle.true in
+          distinct_turn ps c.loop-i.i (omega arith) held (sym w.has_number.ensures ∙ w.if-has_number.false)
+      | else-not-is_idle-via-else-not-is_idle w ↦
+          distinct_turn ps c.loop-i.i (omega arith) (sym c.is_idle.ensures ∙ w.if-not-is_idle.false) refl
+    ]
 
 pub returns : goal.returns
 returns c =

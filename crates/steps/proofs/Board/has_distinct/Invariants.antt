@@ -1,14 +1,9 @@
 -- `Board::has_distinct` meets its contract. The invariant: what is left to look at answers for the whole.
 -- Assumes nothing.
 use mathlib.Core.Path.{◌≡◌}
-use Prim.Native.Nat.{◌-◌}
 use lib.ListN.{drop}
-use Rattle.steps.specs.Record.{all_places}
 use Rattle.steps.specs.Shape.{held, distinct}
 use Rattle.steps.proofs.Board.has_distinct.Given as goal
 
 abbrev pub invariant-loop-i : goal.invariant-loop-i
-invariant-loop-i l = distinct (held l.self.places) ≡ distinct (held (drop l.i l.self.places))
-
-abbrev pub decreases-loop-i : goal.decreases-loop-i
-decreases-loop-i l = all_places - l.i
+invariant-loop-i l = distinct (held l.fn.self.places) ≡ distinct (held (drop l.i l.fn.self.places))

@@ -1,33 +1,18 @@
--- `Board::has_number` meets its contract. The invariant: what is left to look at answers for the whole.
+-- `Board::has_number` meets its contract.
 -- Assumes nothing.
-use mathlib.Core.Path.{◌≡◌, refl, sym, ap, ◌∙◌}
-use native.Mathlib.Omega.{arith}
-use lib.ListN.{length}
-use Rattle.steps.specs.Record.{all_places}
-use Rattle.steps.specs.Shape.{has_number}
-use Rattle.steps.proofs.Places.{long, number_turn, held_end}
+use mathlib.Core.Path.{◌∙◌}
+use borrow.Author.Rules.{rules}
+use borrow.Author.Tests.{tests}
+use lib.ListN.{drop}
+use Rattle.std.proofs.lemmas.List.{take_rest}
+use Rattle.std.proofs.lemmas.Iterator.{YieldsList-from_slice}
+use Rattle.std.proofs.lemmas.Iterator.Search.{any_from_yields_List}
+use Rattle.steps.proofs.Places.{held_number}
 use Rattle.steps.proofs.Board.has_number.Goals as goal
-
-pub loop-i-init : goal.loop-i-init
-loop-i-init c = refl
-
-pub returns-then-is_idle-p : goal.returns-then-is_idle-p
-returns-then-is_idle-p c =
-    let a = c.args in
-    let h : length a.self.places ≡ all_places = search long in
-    let e = rw c.is_idle.ensures at c.if-is_idle-p.true in
-    sym (c.loop-i.invariant ∙ number_turn a.self.places c.loop-i.i (omega arith) a.number e)
-
-pub loop-i-preserved : goal.loop-i-preserved
-loop-i-preserved c =
-    let a = c.args in
-    let h : length a.self.places ≡ all_places = search long in
-    let e = rw c.is_idle.ensures at c.if-is_idle-p.false in
-    c.loop-i.invariant ∙ number_turn a.self.places c.loop-i.i (omega arith) a.number e
 
 pub returns : goal.returns
 returns c =
     let a = c.args in
-    let h : length a.self.places ≡ all_places = search long in
-    let e = held_end a.self.places c.loop-i.i (omega arith) in
-    sym (c.loop-i.invariant ∙ ap (has_number a.number) e)
+    let l = drop a.from a.self.places in
+    any_from_yields_List _ _ _ _ c.any.ensures.ran (YieldsList-from_slice l (cc (take_rest a.self.places a.from))) (λ x b q k. search (rules, tests))
+    ∙ held_number a.number l

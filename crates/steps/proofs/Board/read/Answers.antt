@@ -2,23 +2,23 @@
 -- Assumes nothing.
 use mathlib.Core.Path.{ap}
 use Rattle.records.specs.declared.Call.{Call}
-use Rattle.records.specs.declared.Answer.{Answer}
 use Rattle.steps.specs.Store.{lent, answered}
 use Rattle.steps.proofs.Checks.{passed, refused, handed}
 use Rattle.steps.proofs.Board.read.Goals as goal
+use Rattle.records.specs.Answers.{Answer}
 
 pub shown-shown-requires : goal.shown-shown-requires
-shown-shown-requires c = (passed (lent c.args.self c.args.cells.now) (Call.Read c.args.place c.args.key) c.admit.ensures c.in-At.is).below
+shown-shown-requires c = (passed (lent c.args.self c.args.cells.now) (Call.Read c.args.place c.args.key) c.admit.ensures c.in-Ok.is).below
 
-pub returns-in-Refused : goal.returns-in-Refused
-returns-in-Refused c =
+pub returns-in-Err : goal.returns-in-Err
+returns-in-Err c =
     let a = c.args in
     refused (lent a.self a.cells.now) (Call.Read a.place a.key)
-    c.admit.ensures c.in-Refused.is c.with.ensures
+    c.admit.ensures c.in-Err.is c.with.ensures
 
-pub returns-in-At : goal.returns-in-At
-returns-in-At c =
+pub returns-in-Ok : goal.returns-in-Ok
+returns-in-Ok c =
     let a = c.args in
-    let go = passed (lent a.self a.cells.now) (Call.Read a.place a.key) c.admit.ensures c.in-At.is in
+    let go = passed (lent a.self a.cells.now) (Call.Read a.place a.key) c.admit.ensures c.in-Ok.is in
     let st = lent a.self a.cells.now in
-    go.is (handed c.with-in-At.ensures (ap (λ (x : Answer). answered x st) c.shown-shown.ensures))
+    go.is (handed c.with-in-Ok.ensures (ap (λ (x : Answer). answered x st) c.shown-shown.ensures))

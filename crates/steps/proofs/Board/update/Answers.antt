@@ -8,17 +8,17 @@ use Rattle.steps.proofs.Board.update.Goals as goal
 pub updated-requires : goal.updated-requires
 updated-requires c =
     let a = c.args in
-    let go = passed (lent a.self a.cells.now) (Call.Update a.place a.key a.value) c.admit.ensures c.in-At.is in
+    let go = passed (lent a.self a.cells.now) (Call.Update a.place a.key a.value) c.admit.ensures c.in-Ok.is in
     (go.below, go.keyed)
 
-pub returns-in-Refused : goal.returns-in-Refused
-returns-in-Refused c =
+pub returns-in-Err : goal.returns-in-Err
+returns-in-Err c =
     let a = c.args in
     refused (lent a.self a.cells.now) (Call.Update a.place a.key a.value)
-    c.admit.ensures c.in-Refused.is c.with.ensures
+    c.admit.ensures c.in-Err.is c.with.ensures
 
-pub returns-in-At : goal.returns-in-At
-returns-in-At c =
+pub returns-in-Ok : goal.returns-in-Ok
+returns-in-Ok c =
     let a = c.args in
-    let go = passed (lent a.self a.cells.now) (Call.Update a.place a.key a.value) c.admit.ensures c.in-At.is in
+    let go = passed (lent a.self a.cells.now) (Call.Update a.place a.key a.value) c.admit.ensures c.in-Ok.is in
     go.is c.updated.ensures

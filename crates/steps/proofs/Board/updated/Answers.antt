@@ -8,10 +8,10 @@ use Rattle.steps.specs.Step.{number_at, view_at}
 use Rattle.steps.proofs.Ends.{looked_own, update_own, update_clash, update_new}
 use Rattle.steps.proofs.Board.updated.Goals as goal
 
-pub returns-in-At : goal.returns-in-At
-returns-in-At c =
+pub returns-in-Some : goal.returns-in-Some
+returns-in-Some c =
     let a = c.args in
-    let found = looked_own a.key (number_at a.self a.at) (view_at a.self a.at) (cells_of a.cells.now) c.look-asked.ensures c.in-At.is in
+    let found = looked_own a.key (number_at a.self a.at) (view_at a.self a.at) (cells_of a.cells.now) c.look-asked.ensures c.in-Some.is in
     update_own (lent a.self a.cells.now) a.at a.key a.value found c.cell_at-c.ensures
     c.valued.ensures c.put_cell.ensures c.with.ensures
 

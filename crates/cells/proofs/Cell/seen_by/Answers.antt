@@ -1,4 +1,0 @@
-use Rattle.cells.proofs.Cell.seen_by.Goals as goal
-
-pub returns : goal.returns
-returns c = cc

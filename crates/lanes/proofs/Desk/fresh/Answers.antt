@@ -1,5 +1,0 @@
--- `Desk::fresh` meets its contract: the record is fresh. Assumes nothing.
-use Rattle.lanes.proofs.Desk.fresh.Goals as goal
-
-pub returns : goal.returns
-returns c = λ i. record { board = c.fresh-board.ensures i; left = 0 }
