@@ -27,7 +27,7 @@ use Rattle.lanes.specs.declared.Desk.{Desk}
 use Rattle.lanes.specs.declared.Turned.{Turned}
 use Rattle.lanes.specs.Desk.{desk_words, desk_of, fresh_desk, Turning, Input, turn_of, desk_in, TurnedIn, turned_in}
 use Rattle.lanes.specs.Desk.{Lent, turn_after, Keeps, brought, sent_by, left_by, Turns}
-use Rattle.lanes.specs.Loop.{Ran, Served}
+use Rattle.lanes.specs.Loop.{Ran, AllServed}
 use Rattle.lanes.proofs.Pieces.{cut_short}
 use Rattle.lanes.proofs.Sends.{turns}
 
@@ -188,7 +188,7 @@ module _ {b a : List ℕ} {reads writes reads' writes' : Option (List ℕ)} {cou
 
   -- it is the last, at the end of what is read or at bytes that are no call, and what it sends is written
   pub served : (writes'' : Option (List ℕ)) → o.turned.more ≡ false → (n ≡ 0 → IsAtEnd reads'')
-      → Appends writes' writes'' (sent_by o) → Served reads writes writes''
+      → Appends writes' writes'' (sent_by o) → AllServed reads writes writes''
   served writes'' f z w = go reads reads'' taken z
     where
       go : (r r'' : Option (List ℕ)) → Consumes r r'' (l.read ++ piece) → (n ≡ 0 → IsAtEnd r'')

@@ -2,7 +2,7 @@
 
 ghost use Rattle.std.specs.Prelude.{◌≡◌, OnOk};
 ghost use Rattle.lanes.specs.Desk.{desk_words};
-ghost use Rattle.lanes.specs.Loop.{Ran, Served};
+ghost use Rattle.lanes.specs.Loop.{Ran, AllServed};
 
 use crate::Desk;
 use std::io;
@@ -11,7 +11,7 @@ use std::io::{Read, Write};
 // What the desk program does: on a fresh board it reads call records to the end and writes an answer to each. A read that fails ends
 // the input as its end does, and its error is handed back once what came before it is answered; a write that fails ends it at once.
 pub fn desk<R: Read, W: Write>(input: &mut R, output: &mut W) -> io::Result<()>
-    ensures { OnOk result (Served (R.remaining input.old) (W.contents output.old) (W.contents output.new)) }
+    ensures { OnOk result (AllServed (R.remaining input.old) (W.contents output.old) (W.contents output.new)) }
 {
     run(
         input,
@@ -33,7 +33,7 @@ fn run<R: Read, W: Write>(
 ) -> io::Result<()>
     requires { cells.old ≡ desk_words }
     ensures ran { Ran bytes.old answers.old cells.new bytes.new answers.new }
-    ensures served { OnOk result (Served (R.remaining input.old) (W.contents output.old) (W.contents output.new)) }
+    ensures served { OnOk result (AllServed (R.remaining input.old) (W.contents output.old) (W.contents output.new)) }
 {
     let mut desk = Desk::fresh();
     for _turn in 0..u64::MAX {
