@@ -8,3 +8,4 @@ pub mod Turns
 pub mod Sends
 pub mod Example
 pub mod Unique
+pub mod Loop

@@ -14,6 +14,8 @@ use cells::Cell;
 use records::{ANSWER_BYTES, CALL_BYTES, Call, Refusal, Reply};
 use steps::{Answered, Board};
 
+pub mod stream;
+
 // Why serving stopped: fewer bytes than a call record are left, bytes that are no call, or no room for one more answer.
 #[derive(Clone, Copy, Debug, PartialEq, Eq)]
 pub enum Stop {
