@@ -32,7 +32,8 @@ use Rattle.steps.proofs.Tests.{and_left, and_right}
 use Rattle.lane_c.specs.Words.{place_words, state_word_at, starts_at, commits_at, record_words, state_word, state_of}
 use Rattle.lane_c.specs.Words.{words_of_place, place_of_words, place_fits}
 use Rattle.lane_c.specs.Words.{blocks, each, place_blocks, places_of, words_of_places, words_of_counts, record_of, words_of_record, well_formed}
-use Rattle.lane_c.proofs.Blocks.{length_blocks, block_at, blocks_std, each_std, length_written, blocks_written, written_turn, written_blocks, reads_last, stores_last}
+use Rattle.lane_c.proofs.Blocks.{length_blocks, block_at, blocks_std, each_std}
+use Rattle.lane_c.proofs.Blocks.{length_written, blocks_written, written_turn, written_blocks, reads_last, stores_last}
 
 -- where the counts stand, and how many words there are
 pub numbers : (starts_at ≡ 48) × ((commits_at ≡ 49) × (record_words ≡ 50))
