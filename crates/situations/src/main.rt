@@ -16,7 +16,7 @@ fn main(rt: HostRuntime) {
     let _ = Run::fresh().all(&rt);
 }
 
-// One of the two boards: its record, its words, and how many of these are lent.
+// One of the two boards: its record, its words, and how many of these are lent. The words lie in it, since nothing here is on a heap.
 #[derive(Drop)]
 struct Side {
     board: Board,

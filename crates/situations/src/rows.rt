@@ -16,7 +16,7 @@ pub enum Row {
     Holds(usize, Cell),
 }
 
-// The situations in their order, from 1 on.
+// The situations in their order, from 1 on: a row for each line that is printed, so that rows which two lengths share stand twice.
 #[rattlefmt::skip]
 pub const SITUATIONS: &[&[Row]] = &[
     // 1. start at 0, read key 7: 0
