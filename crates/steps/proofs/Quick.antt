@@ -2,6 +2,7 @@
 --     none_keep      what the oldest view is past, no open view keeps
 --     some_keeps     what the oldest view keeps, an open place keeps
 --     none_back      without a foreign cell no prepared writer holds a key back
+--     held_if        so that it need be asked only where there is one
 -- Assumes nothing.
 use mathlib.Core.Path.{◌≡◌, refl, sym, ap, ◌∙◌}
 use mathlib.Core.Bool.{Bool, true, false, not, ◌&&◌, ◌||◌, true≢false, false≢true, or-true}
@@ -184,3 +185,10 @@ module _ (key number : ℕ) (ps : List Place) (cs : List Cell) where
       by_held : (b : Bool) → has_place (holds_back key number cs) ps ≡ b → b ≡ false
       by_held false e = refl
       by_held true e = absurd (true≢false (sym (place_tells (holds_back key number cs) foreign_at ps e) ∙ h))
+
+  pub held_if : (has_foreign key number cs && held_back key number ps cs) ≡ held_back key number ps cs
+  held_if = by_foreign (has_foreign key number cs) refl
+    where
+      by_foreign : (b : Bool) → has_foreign key number cs ≡ b → (b && held_back key number ps cs) ≡ held_back key number ps cs
+      by_foreign true e = refl
+      by_foreign false e = sym (none_back e)
