@@ -152,7 +152,7 @@ pub fn count(cells: &[u32]) -> usize
 pub fn whole(words: usize, most: usize) -> bool
     ensures { result ≡ whole_cells most words }
 {
-    words % Cell::WORDS == 0 && (1..=most).contains(&(words / Cell::WORDS))
+    (words % Cell::WORDS == 0) & (1..=most).contains(&(words / Cell::WORDS))
 }
 
 // The cell of a number; four zeros for a number that no cell has
@@ -281,7 +281,7 @@ fn four_have<F: Fn(Cell) -> bool>(cells: &[u32], i: usize, test: &F) -> bool
 }
 
 // The first cell from `from` on that passes. Eight are looked at in one go, with no branch for each: by a branch for each cell a
-// search of 1,024 took from 1.2 to 1.9 times as long
+// search of 1,024 took from 1.2 to 1.9 times as long. The searches are no iterator, since `change_own` writes between two of them
 fn next<F: Fn(Cell) -> bool>(cells: &[u32], from: usize, test: F) -> Option<usize>
     requires { F.IsAlwaysCallable test }
     ensures inside { IfSome result (λ at. (from ≤ at) × (at < count_of (length cells.now))) }
@@ -341,7 +341,8 @@ impl Looked {
     }
 }
 
-// All that a read or an update asks of the key's cells, in one pass
+// All that a read or an update asks of the key's cells, in one pass. Number and view are two arguments: they are two fields of the
+// caller's place, and `clashes` is the one test that takes both
 pub fn look(cells: &[u32], key: u32, number: u32, view: u32) -> Looked
     ensures { result ≡ look_of key number view (cells_of cells.now) }
 {
@@ -418,6 +419,6 @@ impl Tops {
     {
         self.seen
             .get(c.word as usize)
-            .is_some_and(|top| c.commit <= view && *top <= c.commit)
+            .is_some_and(|top| (c.commit <= view) & (*top <= c.commit))
     }
 }
