@@ -14,9 +14,9 @@ use Rattle.cells.specs.Rules.{own_at, look_of, newest_seen, conflict, valued}
 use Rattle.steps.specs.declared.Answered.{Answered}
 use Rattle.steps.specs.declared.Board.{Board}
 use Rattle.steps.specs.Record.{lost_board}
-use Rattle.steps.specs.Spent.{reusable, held_back}
+use Rattle.steps.specs.Spent.{held_back}
 use Rattle.steps.specs.Store.{Store, Outcome, lent, cells_in, answered}
-use Rattle.steps.specs.Step.{outcome, number_at, view_at, draft, shown_at, written, updated_as}
+use Rattle.steps.specs.Step.{outcome, number_at, view_at, shown_at, written, updated_as}
 
 -- the own cell that a look found, or that there is none
 pub looked_own : (key number view : ℕ) (cs : List Cell) {l : Looked} {f : Option ℕ} → l ≡ look_of key number view cs → l.own ≡ f
@@ -72,16 +72,3 @@ module _ (st : Store) (p key : ℕ) where
           → o ≡ updated_as st p key value
       unfolding updated_as
       update_new f g = g ∙ rw (e, f)
-
-module _ (st : Store) (number key value : ℕ) where
-  abbrev free : Option ℕ
-  free = reusable st.board.places (cells_in st)
-
-  pub write_free : {i : ℕ} {v : List ℕ} {r : Answered} → free ≡ Some i
-      → v ≡ with_cells st.words (set (cells_in st) i (draft key value number)) → r ≡ record { answer = Ok 0; board = st.board }
-      → outcome r v ≡ written st number key value
-  write_free {v = v} e h w = ap (λ (r : Answered). outcome r v) w ∙ ap (λ (v : List ℕ). answered (Ok 0) (lent st.board v)) h ∙ rw e
-
-  pub write_full : {r : Answered} → free ≡ None → r ≡ record { answer = Err Refusal.Full; board = st.board }
-      → outcome r st.words ≡ written st number key value
-  write_full e w = ap (λ (r : Answered). outcome r st.words) w ∙ rw e

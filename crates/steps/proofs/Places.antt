@@ -4,14 +4,13 @@
 --     held_number     whether one of those has a number
 --     held_each       whether every one of those passes a test
 --     distinct_turn   whether their numbers are distinct: one turn of a scan from the front, `here` the place that the turn looks at
---     held_end        the end of that scan
 -- Assumes nothing.
 use mathlib.Core.Path.{◌≡◌, refl, sym, ap, ◌∙◌}
 use mathlib.Core.Bool.{Bool, true, false, cond, not, ◌&&◌, ◌||◌}
 use mathlib.Core.List.{List, [], ◌∷◌, map}
-use Prim.Native.Nat.{ℕ, ◌+◌, ◌<◌, ◌≤◌}
+use Prim.Native.Nat.{ℕ, ◌+◌, ◌<◌}
 use lib.Dec.{eqb}
-use lib.ListN.{length, get_or, drop, length-map, drop_of_length-le}
+use lib.ListN.{length, get_or, drop, length-map}
 use Rattle.std.specs.List.{filter, count_by, list_any, list_all}
 use Rattle.std.proofs.lemmas.List.Sums.{length-filter}
 use Rattle.cells.proofs.Laws.{drop_next}
@@ -68,6 +67,3 @@ module _ (ps : List Place) (i : ℕ) (h : i < length ps) where
       turn : (t : Bool) → distinct (cond t rest (here ∷ rest)) ≡ (not (not t && has_number here.number rest) && distinct rest)
       turn true = refl
       turn false = refl
-
-pub held_end : (ps : List Place) (i : ℕ) → length ps ≤ i → held (drop i ps) ≡ []
-held_end ps i h = ap held (drop_of_length-le ps h)

@@ -2,22 +2,27 @@
 --     none_keep      what the oldest view is past, no open view keeps
 --     some_keeps     what the oldest view keeps, an open place keeps
 --     none_back      without a foreign cell no prepared writer holds a key back
+--     held_if        so that it need be asked only where there is one
 -- Assumes nothing.
 use mathlib.Core.Path.{◌≡◌, refl, sym, ap, ◌∙◌}
-use mathlib.Core.Bool.{Bool, true, false, not, ◌&&◌, ◌||◌, true≢false, false≢true, or-true}
+use mathlib.Core.Bool.{Bool, true, false, not, ◌&&◌, ◌||◌, true≢false}
 use mathlib.Core.List.{List, [], ◌∷◌}
 use Prim.Native.Nat.{ℕ, ◌≤◌}
 use native.Mathlib.Omega.{arith}
 use borrow.Author.Tests.{ltb-false, leb-true, le-leb, le-ltb, ne_eqb, not-true, eqb-true, eqb-false, eq-eqb}
 use lib.Dec.{eqb, ltb, leb}
+use lib.ListN.{get_or}
 use Rattle.cells.specs.declared.Cell.{Cell}
-use Rattle.cells.specs.Cells.{of_key, foreign}
+use Rattle.cells.specs.Cells.{no_cell, of_key, foreign}
 use Rattle.cells.specs.Rules.{has_cell, newer, between, keeps, foreign_of, foreign_with, has_foreign}
+use Rattle.cells.proofs.Meaning.{has_found, some_has}
 use Rattle.steps.specs.declared.Place.{Place}
 use Rattle.steps.specs.Record.{is_open, is_prepared}
 use Rattle.std.specs.Prelude.{cond, min, map, Option, Some, None}
 use Rattle.std.specs.Option.{unwrap_or}
 use Rattle.std.specs.List.{filter, fold, reduce, list_any}
+use Rattle.std.proofs.lemmas.List.Folds.{Any-from_list_any, list_any-from_Any}
+use Rattle.steps.proofs.Spent.{has_is_any}
 use Rattle.steps.specs.Search.{open_views, oldest_view}
 use Rattle.steps.proofs.Tests.{and_left, and_right, and_both, or_neither}
 use Rattle.steps.specs.Spent.{has_place, keeps_at, holds_back, held_back}
@@ -47,8 +52,7 @@ fold_found a (x ∷ xs) m e = turn (eqb a m) (eqb x m) refl refl (fold_found (mi
 -- THE OLDEST OPEN PLACE
 
 -- a test of the views of the open places
-open_any : (f : ℕ → Bool) (ps : List Place) → has_place (λ p. is_open p.state && f p.view) ps ≡ list_any f (open_views ps)
-unfolding has_place
+open_any : (f : ℕ → Bool) (ps : List Place) → list_any (λ p. is_open p.state && f p.view) ps ≡ list_any f (open_views ps)
 open_any f [] = refl
 open_any f (p ∷ ps) = turn (is_open p.state) (open_any f ps)
   where
@@ -58,7 +62,7 @@ open_any f (p ∷ ps) = turn (is_open p.state) (open_any f ps)
     turn false e = e
 
 none_below : (ps : List Place) (o : Option ℕ) → oldest_view ps ≡ o
-    → has_place (λ p. is_open p.state && ltb p.view (unwrap_or o 0)) ps ≡ false
+    → list_any (λ p. is_open p.state && ltb p.view (unwrap_or o 0)) ps ≡ false
 none_below ps o e = open_any (λ x. ltb x (unwrap_or o 0)) ps ∙ by_views (open_views ps) o e
   where
     by_views : (xs : List ℕ) (o : Option ℕ) → reduce min xs ≡ o → list_any (λ x. ltb x (unwrap_or o 0)) xs ≡ false
@@ -68,7 +72,7 @@ none_below ps o e = open_any (λ x. ltb x (unwrap_or o 0)) ps ∙ by_views (open
         let f = fold_least x xs m (cc) in
         or_neither (le-ltb x m f.0) f.1
 
-one_at : (ps : List Place) (m : ℕ) → oldest_view ps ≡ Some m → has_place (λ p. is_open p.state && eqb p.view m) ps ≡ true
+one_at : (ps : List Place) (m : ℕ) → oldest_view ps ≡ Some m → list_any (λ p. is_open p.state && eqb p.view m) ps ≡ true
 one_at ps m e = open_any (λ x. eqb x m) ps ∙ by_views (open_views ps) e
   where
     by_views : (xs : List ℕ) → reduce min xs ≡ Some m → list_any (λ x. eqb x m) xs ≡ true
@@ -77,39 +81,13 @@ one_at ps m e = open_any (λ x. eqb x m) ps ∙ by_views (open_views ps) e
 
 -- WHAT ITS VIEW TELLS
 
--- what passes one test passes another: of places
-place_more : (p q : Place → Bool) → ((x : Place) → p x ≡ true → q x ≡ true) → (ps : List Place) → has_place p ps ≡ true
-    → has_place q ps ≡ true
-unfolding has_place
-place_more p q f [] e = e
-place_more p q f (x ∷ ps) e = by_first (p x) refl e (place_more p q f ps)
-  where
-    by_first : (b : Bool) → p x ≡ b → (b || has_place p ps) ≡ true → (has_place p ps ≡ true → has_place q ps ≡ true)
-        → (q x || has_place q ps) ≡ true
-    by_first true g e rest = ap (λ (b : Bool). b || has_place q ps) (f x g)
-    by_first false g e rest = ap (λ (b : Bool). q x || b) (rest e) ∙ or-true (q x)
+-- what passes one test passes another
+any_more : {X : Type 0} (p q : X → Bool) → ((x : X) → p x ≡ true → q x ≡ true) → (xs : List X) → list_any p xs ≡ true
+    → list_any q xs ≡ true
+any_more p q f xs e = let a = Any-from_list_any p xs e in list_any-from_Any q xs (a.0, a.1, a.2, a.3, f a.1 a.4)
 
--- what each place that passes a test tells
-place_tells : {P : Type 0} (q : Place → Bool) → ((x : Place) → q x ≡ true → P) → (ps : List Place) → has_place q ps ≡ true → P
-unfolding has_place
-place_tells q f [] e = absurd (false≢true e)
-place_tells {P} q f (x ∷ ps) e = by_first (q x) refl e (place_tells q f ps)
-  where
-    by_first : (b : Bool) → q x ≡ b → (b || has_place q ps) ≡ true → (has_place q ps ≡ true → P) → P
-    by_first true g e rest = f x g
-    by_first false g e rest = rest e
-
--- what passes one test passes another: of cells
-has_more : (p q : Cell → Bool) → ((d : Cell) → p d ≡ true → q d ≡ true) → (cs : List Cell) → has_cell p cs ≡ true
-    → has_cell q cs ≡ true
-unfolding has_cell
-has_more p q f [] e = e
-has_more p q f (d ∷ cs) e = by_first (p d) refl e (has_more p q f cs)
-  where
-    by_first : (b : Bool) → p d ≡ b → (b || has_cell p cs) ≡ true → (has_cell p cs ≡ true → has_cell q cs ≡ true)
-        → (q d || has_cell q cs) ≡ true
-    by_first true g e rest = ap (λ (b : Bool). b || has_cell q cs) (f d g)
-    by_first false g e rest = ap (λ (b : Bool). q d || b) (rest e) ∙ or-true (q d)
+cell_more : (p q : Cell → Bool) → ((d : Cell) → p d ≡ true → q d ≡ true) → (cs : List Cell) → has_cell p cs ≡ true → has_cell q cs ≡ true
+cell_more p q f cs e = let a = has_found p cs e in some_has q cs a.at a.inside (f (get_or cs a.at no_cell) a.passes)
 
 -- a later view sees it too
 between_later : (c : Cell) (m W : ℕ) → m ≤ W → (d : Cell) → between c m d ≡ true → between c W d ≡ true
@@ -131,7 +109,7 @@ module _ (ps : List Place) (cs : List Cell) (c : Cell) where
     kept_below p k = by_view (ltb p.view view) refl
       where
         seen : view ≤ p.view → has_cell (between c p.view) cs ≡ true
-        seen l = has_more (between c view) (between c p.view) (between_later c view p.view l) cs past
+        seen l = cell_more (between c view) (between c p.view) (between_later c view p.view l) cs past
 
         kept : keeps cs c p.view ≡ true
         kept = and_right (is_open p.state) (keeps cs c p.view) k
@@ -144,14 +122,16 @@ module _ (ps : List Place) (cs : List Cell) (c : Cell) where
         by_view false e = absurd (true≢false (sym (seen (ltb-false p.view view e)) ∙ none))
 
     pub none_keep : oldest_view ps ≡ o → has_place (keeps_at cs c) ps ≡ false
-    none_keep e = by_kept (has_place (keeps_at cs c) ps) refl
+    none_keep e = sym (has_is_any (keeps_at cs c) ps) ∙ by_kept (list_any (keeps_at cs c) ps) refl
       where
-        by_kept : (b : Bool) → has_place (keeps_at cs c) ps ≡ b → b ≡ false
+        by_kept : (b : Bool) → list_any (keeps_at cs c) ps ≡ b → b ≡ false
         by_kept false f = refl
-        by_kept true f = absurd (true≢false (sym (place_more (keeps_at cs c) below kept_below ps f) ∙ none_below ps o e))
+        by_kept true f = absurd (true≢false (sym (any_more (keeps_at cs c) below kept_below ps f) ∙ none_below ps o e))
 
   pub some_keeps : (view : ℕ) → oldest_view ps ≡ Some view → keeps cs c view ≡ true → has_place (keeps_at cs c) ps ≡ true
-  some_keeps view e k = place_more (λ p. is_open p.state && eqb p.view view) (keeps_at cs c) here ps (one_at ps view e)
+  some_keeps view e k =
+      sym (has_is_any (keeps_at cs c) ps)
+      ∙ any_more (λ p. is_open p.state && eqb p.view view) (keeps_at cs c) here ps (one_at ps view e)
     where
       here : (p : Place) → (is_open p.state && eqb p.view view) ≡ true → keeps_at cs c p ≡ true
       here p f =
@@ -172,15 +152,24 @@ module _ (key number : ℕ) (ps : List Place) (cs : List Cell) where
 
   foreign_seen : (other : ℕ) → foreign_with key number other cs ≡ true → has_foreign key number cs ≡ true
   unfolding has_foreign foreign_with
-  foreign_seen other e = has_more (foreign_of key number other) (λ c. of_key key c && foreign number c) (foreign_too other) cs e
+  foreign_seen other e = cell_more (foreign_of key number other) (λ c. of_key key c && foreign number c) (foreign_too other) cs e
 
   pub none_back : has_foreign key number cs ≡ false → held_back key number ps cs ≡ false
   unfolding held_back
-  none_back h = by_held (has_place (holds_back key number cs) ps) refl
+  none_back h = sym (has_is_any (holds_back key number cs) ps) ∙ by_held (list_any (holds_back key number cs) ps) refl
     where
       foreign_at : (p : Place) → holds_back key number cs p ≡ true → has_foreign key number cs ≡ true
       foreign_at p e = foreign_seen p.number (and_right (is_prepared p.state) (foreign_with key number p.number cs) e)
 
-      by_held : (b : Bool) → has_place (holds_back key number cs) ps ≡ b → b ≡ false
+      by_held : (b : Bool) → list_any (holds_back key number cs) ps ≡ b → b ≡ false
       by_held false e = refl
-      by_held true e = absurd (true≢false (sym (place_tells (holds_back key number cs) foreign_at ps e) ∙ h))
+      by_held true e =
+          let a = Any-from_list_any (holds_back key number cs) ps e in
+          absurd (true≢false (sym (foreign_at a.1 a.4) ∙ h))
+
+  pub held_if : (has_foreign key number cs && held_back key number ps cs) ≡ held_back key number ps cs
+  held_if = by_foreign (has_foreign key number cs) refl
+    where
+      by_foreign : (b : Bool) → has_foreign key number cs ≡ b → (b && held_back key number ps cs) ≡ held_back key number ps cs
+      by_foreign true e = refl
+      by_foreign false e = sym (none_back e)

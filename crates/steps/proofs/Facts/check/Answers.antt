@@ -18,12 +18,14 @@ pub returns-in-Some : goal.returns-in-Some
 unfolding check_of
 returns-in-Some c =
     let l = c.iter.result.rest.now in
-    let found = find_from_yields_List (λ (r : Refusal × Bool). r.1) _ _ _ c.find.ensures.ran (YieldsList-from_slice l refl) (λ x b q k. search (rules, tests)) in
+    let found =
+    find_from_yields_List (λ (r : Refusal × Bool). r.1) _ _ _ c.find.ensures.ran (YieldsList-from_slice l refl) (λ x b q k. search (rules, tests)) in
     first_said l (sym (ap (option_map (λ r. r.now)) c.in-Some.is) ∙ found) ∙ ap (λ (l : List (Refusal × Bool)). first_of (rows_of l) (Ok 0)) c.iter.ensures.rest
 
 pub returns-in-None : goal.returns-in-None
 unfolding check_of
 returns-in-None c =
     let l = c.iter.result.rest.now in
-    let found = find_from_yields_List (λ (r : Refusal × Bool). r.1) _ _ _ c.find.ensures.ran (YieldsList-from_slice l refl) (λ x b q k. search (rules, tests)) in
+    let found =
+    find_from_yields_List (λ (r : Refusal × Bool). r.1) _ _ _ c.find.ensures.ran (YieldsList-from_slice l refl) (λ x b q k. search (rules, tests)) in
     first_said l (sym (ap (option_map (λ r. r.now)) c.in-None.is) ∙ found) ∙ ap (λ (l : List (Refusal × Bool)). first_of (rows_of l) (Ok 0)) c.iter.ensures.rest
