@@ -1,11 +1,11 @@
 -- What is left to serve once some records are answered: how far the loop of `serve` has come.
 --     rest_whole   before the first record it is all
---     rest_good    a record that is a call moves on
---     rest_bad     bytes that are no call end it
+--     turn_good    a record that is a call moves on
+--     turn_bad     bytes that are no call end it
 --     rest_none    past the last record nothing is left
 -- Assumes nothing.
-use mathlib.Core.Path.{◌≡◌, refl, sym, ap, ◌∙◌}
-use mathlib.Core.Bool.{Bool, true, false, cond, true≢false, false≢true}
+use mathlib.Core.Path.{◌≡◌, sym, ap, ◌∙◌}
+use mathlib.Core.Bool.{Bool, true, cond}
 use Rattle.std.specs.Prelude.{Some, None, Option}
 use mathlib.Core.List.{List, [], ◌∷◌, ◌++◌, append_assoc}
 use Prim.Native.Nat.{ℕ, suc, ◌+◌, ◌*◌, ◌-◌, ◌≤◌, ◌<◌}
@@ -13,18 +13,17 @@ use native.Mathlib.Nat.{zero-add, add-zero}
 use native.Mathlib.Omega.{arith}
 use lib.Dec.{ltb, leb, leb-suc-suc, leb-zero}
 use lib.ListN.{length, take, drop, length-append, take-append-drop}
-use Rattle.std.proofs.lemmas.List.{take_rest}
 use lib.Seq.{drop-drop}
 use Rattle.records.specs.declared.Call.{Call}
-use Rattle.records.specs.Format.{call_bytes, answer_bytes, answer_record, call_in, call_at, put_at}
-use Rattle.steps.specs.declared.Board.{Board}
+use Rattle.records.specs.Format.{call_bytes, answer_bytes, answer_record, call_at, put_at}
+use Rattle.steps.specs.declared.Answered.{Answered}
 use Rattle.steps.specs.Store.{Store, Outcome, lent}
-use Rattle.steps.specs.Step.{step}
+use Rattle.steps.specs.Step.{outcome, step}
 use Rattle.steps.specs.Run.{Run, pair_of, run}
 use Rattle.lanes.specs.declared.Stop.{Stop}
 use Rattle.lanes.specs.Serve.{read_then, calls_in, reply_to, no_call, replies_of, records_of, whole_calls, tried}
-use Rattle.lanes.specs.Serve.{refused, Serving, serve_first, serve_of, serve_into, OneAnswered, one_answered, answer_one}
-use Rattle.records.proofs.Bytes.{put_next, put_part}
+use Rattle.lanes.specs.Serve.{refused, Serving, serve_first, serve_of, serve_into}
+use Rattle.records.proofs.Bytes.{put_next}
 use Rattle.records.proofs.Fields.{answer_length}
 
 -- calls that are left, of so many records, with i records answered before them; last is why serving stops if they are all calls
@@ -153,94 +152,30 @@ module _ (i k : ℕ) (last : Stop) (st : Store) (answers : List ℕ) where
         stop = last;
       }
 
--- one turn of the loop: what answering the record at the front of what is left tells
-module _ (i k : ℕ) (last : Stop) (st : Store) (bytes answers : List ℕ) (b : Board) (ws' answers' : List ℕ) where
-  pub rest_good : (after : Board) → answer_bytes * i + answer_bytes ≤ length answers
-      → one_answered b (Some after) ws' answers' ≡ answer_one st (call_at bytes (call_bytes * i)) answers (answer_bytes * i)
-      → rest (suc k) i last st bytes answers ≡ rest k (i + 1) last (lent after ws') bytes answers'
-  rest_good after room e = go (call_at bytes (call_bytes * i)) refl e
-    where
-      go : (r : Option Call) → call_at bytes (call_bytes * i) ≡ r
-          → one_answered b (Some after) ws' answers' ≡ answer_one st r answers (answer_bytes * i)
-          → rest (suc k) i last st bytes answers ≡ rest k (i + 1) last (lent after ws') bytes answers'
-      go (Some call) h o =
-          ap (λ (l : List Call). rest_with l (suc k) i last st answers) (next_good bytes i k call h)
-          ∙ with_good i k last st answers call (calls_in k (drop (call_bytes * (i + 1)) bytes)) room
-          ∙ sym (λ j. rest k (i + 1) last (o j).store bytes (o j).answers)
-      go None h o = absurd (true≢false (ap (λ (s : OneAnswered). s.good) o))
-
-  pub rest_bad : one_answered b None ws' answers' ≡ answer_one st (call_at bytes (call_bytes * i)) answers (answer_bytes * i)
-      → rest (suc k) i last st bytes answers ≡ stopped i (lent b ws') answers'
-  rest_bad e = go (call_at bytes (call_bytes * i)) refl e
-    where
-      go : (r : Option Call) → call_at bytes (call_bytes * i) ≡ r
-          → one_answered b None ws' answers' ≡ answer_one st r answers (answer_bytes * i)
-          → rest (suc k) i last st bytes answers ≡ stopped i (lent b ws') answers'
-      go (Some call) h o = absurd (false≢true (ap (λ (s : OneAnswered). s.good) o))
-      go None h o =
-          ap (λ (l : List Call). rest_with l (suc k) i last st answers) (next_bad bytes i k h)
-          ∙ with_bad i k last st answers
-          ∙ sym (λ j. stopped i (o j).store (o j).answers)
-
--- the same, of n records in all, where what is left of the calls and of the answers is lent, and the answers are put back behind those
--- before them
-module _ (n i : ℕ) (h : i < n) (last : Stop) (st : Store) (bytes answers : List ℕ) (b : Board) (ws' part : List ℕ) where
-  abbrev at : ℕ
-  at = call_bytes * i
-
-  abbrev to : ℕ
-  to = answer_bytes * i
-
-  abbrev calls_left : List ℕ
-  calls_left = take (length bytes - at) (drop at bytes)
-
-  abbrev answers_left : List ℕ
-  answers_left = take (length answers - to) (drop to answers)
-
-  abbrev put_back : List ℕ
-  put_back = take to answers ++ (part ++ drop (length answers - to) (drop to answers))
-
+-- one turn of the loop, of n records in all: what stands at the front of what is left decides
+module _ (n i : ℕ) (h : i < n) (last : Stop) (st : Store) (bytes answers answers' : List ℕ) where
   one_less : n - i ≡ suc (n - (i + 1))
   one_less = omega arith
 
-  same_call : call_at calls_left 0 ≡ call_at bytes at
-  unfolding call_at
-  same_call = ap (λ (l : List ℕ). call_in (take call_bytes l)) (take_rest bytes at)
-
-  put_there : (r : Option Board) (read : Option Call) → one_answered b r ws' part ≡ answer_one st read answers_left 0
-      → one_answered b r ws' put_back ≡ answer_one st read answers to
-  put_there (Some after) (Some call) o =
-      λ j. record {
-        store = (o j).store;
-        answers = put_part answers to (answer_record (reply_to (pair_of st call))) part (ap (λ (s : OneAnswered). s.answers) o) j;
-        good = true;
-      }
-  put_there None None o =
-      λ j. record {
-        store = (o j).store;
-        answers = put_part answers to (answer_record no_call) part (ap (λ (s : OneAnswered). s.answers) o) j;
-        good = false;
-      }
-  put_there (Some after) None o = absurd (true≢false (ap (λ (s : OneAnswered). s.good) o))
-  put_there None (Some call) o = absurd (false≢true (ap (λ (s : OneAnswered). s.good) o))
-
-  told : (r : Option Board) → one_answered b r ws' part ≡ answer_one st (call_at calls_left 0) answers_left 0
-      → one_answered b r ws' put_back ≡ answer_one st (call_at bytes at) answers to
-  told r e =
-      put_there r (call_at bytes at) (e ∙ ap (λ (read : Option Call). answer_one st read answers_left 0) same_call)
-
-  pub turn_good : (after : Board) → to + answer_bytes ≤ length answers
-      → one_answered b (Some after) ws' part ≡ answer_one st (call_at calls_left 0) answers_left 0
-      → rest (n - i) i last st bytes answers ≡ rest (n - (i + 1)) (i + 1) last (lent after ws') bytes put_back
-  turn_good after room e =
+  pub turn_good : (call : Call) (r : Answered) (ws' : List ℕ) → call_at bytes (call_bytes * i) ≡ Some call
+      → answer_bytes * i + answer_bytes ≤ length answers → outcome r ws' ≡ step st call
+      → answers' ≡ put_at answers (answer_bytes * i) (answer_record (reply_to (pair_of st call)))
+      → rest (n - i) i last st bytes answers ≡ rest (n - (i + 1)) (i + 1) last (lent r.board ws') bytes answers'
+  turn_good call r ws' e room o put =
+      let k : ℕ = n - (i + 1) in
       ap (λ (left : ℕ). rest left i last st bytes answers) one_less
-      ∙ rest_good i (n - (i + 1)) last st bytes answers b ws' put_back after room (told (Some after) e)
+      ∙ ap (λ (l : List Call). rest_with l (suc k) i last st answers) (next_good bytes i k call e)
+      ∙ with_good i k last st answers call (calls_in k (drop (call_bytes * (i + 1)) bytes)) room
+      ∙ sym (λ j. rest k (i + 1) last (o j).store bytes (put j))
 
-  pub turn_bad : one_answered b None ws' part ≡ answer_one st (call_at calls_left 0) answers_left 0
-      → rest (n - i) i last st bytes answers ≡ stopped i (lent b ws') put_back
-  turn_bad e =
+  pub turn_bad : call_at bytes (call_bytes * i) ≡ None → answers' ≡ put_at answers (answer_bytes * i) (answer_record no_call)
+      → rest (n - i) i last st bytes answers ≡ stopped i st answers'
+  turn_bad e put =
+      let k : ℕ = n - (i + 1) in
       ap (λ (left : ℕ). rest left i last st bytes answers) one_less
-      ∙ rest_bad i (n - (i + 1)) last st bytes answers b ws' put_back (told None e)
+      ∙ ap (λ (l : List Call). rest_with l (suc k) i last st answers) (next_bad bytes i k e)
+      ∙ with_bad i k last st answers
+      ∙ sym (ap (stopped i st) put)
 
 pub rest_none : (i : ℕ) (last : Stop) (st : Store) (bytes answers : List ℕ)
     → rest 0 i last st bytes answers

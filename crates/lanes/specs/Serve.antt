@@ -1,16 +1,14 @@
 -- Call records answered one after another.
 -- Assumes nothing.
-use Rattle.std.specs.Prelude.{ℕ, zero, suc, ◌*◌, ◌/◌, min, Bool, true, false, cond, Option, Some, None, Err}
+use Rattle.std.specs.Prelude.{ℕ, zero, suc, ◌*◌, ◌/◌, min, cond, Option, Some, None, Err}
 use Rattle.std.specs.Prelude.{List, [], ◌∷◌, ◌++◌, map, ltb, leb, length, drop}
 use Rattle.records.specs.declared.Refusal.{Refusal}
 use Rattle.records.specs.declared.Call.{Call}
 use Rattle.records.specs.declared.Reply.{Reply}
 use Rattle.records.specs.Answers.{place_of}
 use Rattle.records.specs.Format.{call_bytes, answer_bytes, answer_of, answer_record, call_at, put_at}
-use Rattle.steps.specs.declared.Board.{Board}
 use Rattle.steps.specs.Store.{Store, lent}
-use Rattle.steps.specs.Step.{step}
-use Rattle.steps.specs.Run.{Pair, Run, pair_of, run}
+use Rattle.steps.specs.Run.{Pair, Run, run}
 use Rattle.lanes.specs.declared.Stop.{Stop}
 use Rattle.lanes.specs.declared.Served.{Served}
 
@@ -108,20 +106,3 @@ into_bytes answers s =
 -- what serving bytes of calls into lent bytes comes to
 abbrev pub serve_into : Store → List ℕ → List ℕ → Serving
 serve_into st bytes answers = into_bytes answers (serve_of st bytes (length answers))
-
--- one record answered: the store after it, the lent bytes with its answer, and whether it was a call
-pub record OneAnswered : Type 0 where
-  pub store : Store
-  pub answers : List ℕ
-  pub good : Bool
-
--- what answering one record handed back, as such a record: the board after a call; bytes that are no call leave the board as it was
-abbrev pub one_answered : Board → Option Board → List ℕ → List ℕ → OneAnswered
-one_answered b (Some after) ws answers = record { store = lent after ws; answers = answers; good = true }
-one_answered b None ws answers = record { store = lent b ws; answers = answers; good = false }
-
--- a call does its step and is answered in the lent bytes; bytes that are no call change nothing of the store
-abbrev pub answer_one : Store → Option Call → List ℕ → ℕ → OneAnswered
-answer_one st (Some call) answers to =
-    record { store = (step st call).store; answers = put_at answers to (answer_record (reply_to (pair_of st call))); good = true }
-answer_one st None answers to = record { store = st; answers = put_at answers to (answer_record no_call); good = false }

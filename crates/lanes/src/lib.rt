@@ -3,11 +3,10 @@
 #![tactic(auto)]
 
 ghost use Rattle.std.specs.Prelude.{◌≡◌, ◌+◌, ◌*◌, ◌-◌, ◌/◌, ◌≤◌, true, cond, ◌&&◌, leb, length, take, drop};
-ghost use Rattle.records.specs.Answers.{place_of};
-ghost use Rattle.records.specs.Format.{answer_bytes, call_bytes, goes_in, answer_record, call_at, put_at};
+ghost use Rattle.records.specs.Format.{answer_bytes, call_bytes, put_at};
 ghost use Rattle.steps.specs.Store.{lent};
 ghost use Rattle.steps.specs.Step.{outcome, step};
-ghost use Rattle.lanes.specs.Serve.{no_call, serving, serve_into, one_answered, answer_one};
+ghost use Rattle.lanes.specs.Serve.{serving, serve_into};
 ghost use Rattle.lanes.specs.Desk.{desk_words, more_after, at_end, turn_on, fresh_desk, turned_in, turn_put, turn_into};
 
 use cells::Cell;
@@ -47,44 +46,11 @@ pub fn call(board: Board, cells: &mut [u32], call: Call) -> Answered
     }
 }
 
-// Answers the call record at the front of the calls, at the front of the answers. Hands back the record after it, or None for bytes
-// that are no call: the record is then as it was.
-#[tactic(auto, unfolding(records::specs::Format::call_at))]
-fn answer_one(board: Board, cells: &mut [u32], calls: &[u8], answers: &mut [u8]) -> Option<Board>
-    requires { answer_bytes ≤ length answers.old }
-    ensures { one_answered board result cells.new answers.new
-        ≡ answer_one (lent board cells.old) (call_at calls.now 0) answers.old 0 }
-{
-    let Some(c) = records::read::<Call>(calls, 0) else {
-        no_call(answers);
-        return None;
-    };
-    Some(reply_to(board, cells, c, answers))
-}
-
-// Does a call that was read, and writes its answer, with the call's place byte.
-fn reply_to(board: Board, cells: &mut [u32], c: Call, answers: &mut [u8]) -> Board
-    requires { (goes_in 1 (place_of c) ≡ true) × (answer_bytes ≤ length answers.old) }
-    ensures { one_answered board (Some result) cells.new answers.new
-        ≡ answer_one (lent board cells.old) (Some c) answers.old 0 }
-{
-    let done = call(board, cells, c);
-    let answer = done.answer;
-    // A value goes into its four bytes, so the record is written; the proof rests on this line.
-    prove!(records::value(answer) <= u32::MAX);
-    let place = records::place_of(c);
-    let _ = records::write(answers, 0, Reply { place, answer });
-    done.board
-}
-
-// Writes RECORD with place 0 and value 0, which there is room for.
-fn no_call(answers: &mut [u8])
-    requires { answer_bytes ≤ length answers.old }
-    ensures { answers.new ≡ put_at answers.old 0 (answer_record no_call) }
-{
-    let answer = Err(Refusal::Record);
-    let _ = records::write(answers, 0, Reply { place: 0, answer });
-}
+// RECORD with place 0 and value 0.
+const NO_CALL: Reply = Reply {
+    place: 0,
+    answer: Err(Refusal::Record),
+};
 
 // Answers call records one after another: to the end of the whole records, to bytes that are no call (RECORD is written for them, and
 // they are not taken), or until no room is left for one more answer.
@@ -97,7 +63,8 @@ pub fn serve(mut board: Board, cells: &mut [u32], calls: &[u8], answers: &mut [u
     // By offsets: once a `chunks_exact_mut` over `answers` is done, a proof knows nothing of what was written through it.
     for i in 0..records {
         let (at, to) = (CALL_BYTES * i, ANSWER_BYTES * i);
-        let Some(after) = answer_one(board, cells, &calls[at..], &mut answers[to..]) else {
+        let Some(c) = records::read::<Call>(calls, at) else {
+            let _ = records::write(answers, to, NO_CALL);
             return Served {
                 board,
                 taken: at,
@@ -105,7 +72,12 @@ pub fn serve(mut board: Board, cells: &mut [u32], calls: &[u8], answers: &mut [u
                 stop: Stop::Record,
             };
         };
-        board = after;
+        let done = call(board, cells, c);
+        let (place, answer) = (records::place_of(c), done.answer);
+        // A value goes into its four bytes, so the answer is written; the proof rests on this line.
+        prove!(records::value(answer) <= u32::MAX);
+        let _ = records::write(answers, to, Reply { place, answer });
+        board = done.board;
     }
     Served {
         board,
@@ -246,6 +218,6 @@ fn finish(left: usize, answers: &mut [u8]) -> usize
     if left == 0 {
         return 0;
     }
-    no_call(answers);
+    let _ = records::write(answers, 0, NO_CALL);
     ANSWER_BYTES
 }

@@ -1,4 +1,6 @@
 -- `finish` meets its contract: nothing left is nothing written, and a cut record is RECORD. Assumes nothing.
+use native.Mathlib.Omega.{arith}
+use Rattle.lanes.proofs.Replies.{no_call_put}
 use Rattle.lanes.proofs.Turns.{end_none, end_cut}
 use Rattle.lanes.proofs.finish.Goals as goal
 
@@ -7,5 +9,6 @@ returns-then-left-eq0 c = end_none c.args.left c.args.answers.now c.if-left-eq0.
 
 pub returns : goal.returns
 returns c =
-    let s = c.args in
-    end_cut s.left s.answers.now c.no_call.new.answers c.if-left-eq0.false c.no_call.ensures
+    let answers = c.args.answers.now in
+    end_cut c.args.left answers c.write.new.bytes c.if-left-eq0.false
+    (no_call_put answers 0 (omega arith) c.write.result c.write.new.bytes c.write.ensures)
