@@ -208,7 +208,7 @@ fn save(words: &mut [u32], b: Board)
 {
     for (i, p) in b.places.iter().enumerate() {
         let at = PLACE_WORDS * i;
-        words[at..at + PLACE_WORDS].copy_from_slice(&words_of(*p));
+        [words[at], words[at + 1], words[at + 2]] = words_of(*p);
     }
     words[STARTS] = b.starts;
     words[COMMITS] = b.commits;

@@ -5,7 +5,7 @@
 --     rest_none    past the last record nothing is left
 -- Assumes nothing.
 use mathlib.Core.Path.{◌≡◌, refl, sym, ap, ◌∙◌}
-use mathlib.Core.Bool.{Bool, true, cond, true≢false, false≢true}
+use mathlib.Core.Bool.{Bool, true, false, cond, true≢false, false≢true}
 use Rattle.std.specs.Prelude.{Some, None, Option}
 use mathlib.Core.List.{List, [], ◌∷◌, ◌++◌, append_assoc}
 use Prim.Native.Nat.{ℕ, suc, ◌+◌, ◌*◌, ◌-◌, ◌≤◌, ◌<◌}
@@ -13,9 +13,10 @@ use native.Mathlib.Nat.{zero-add, add-zero}
 use native.Mathlib.Omega.{arith}
 use lib.Dec.{ltb, leb, leb-suc-suc, leb-zero}
 use lib.ListN.{length, take, drop, length-append, take-append-drop}
+use Rattle.std.proofs.lemmas.List.{take_rest}
 use lib.Seq.{drop-drop}
 use Rattle.records.specs.declared.Call.{Call}
-use Rattle.records.specs.Format.{call_bytes, answer_bytes, answer_record, call_at, put_at}
+use Rattle.records.specs.Format.{call_bytes, answer_bytes, answer_record, call_in, call_at, put_at}
 use Rattle.steps.specs.declared.Board.{Board}
 use Rattle.steps.specs.Store.{Store, Outcome, lent}
 use Rattle.steps.specs.Step.{step}
@@ -23,7 +24,7 @@ use Rattle.steps.specs.Run.{Run, pair_of, run}
 use Rattle.lanes.specs.declared.Stop.{Stop}
 use Rattle.lanes.specs.Serve.{read_then, calls_in, reply_to, no_call, replies_of, records_of, whole_calls, tried}
 use Rattle.lanes.specs.Serve.{refused, Serving, serve_first, serve_of, serve_into, OneAnswered, one_answered, answer_one}
-use Rattle.records.proofs.Bytes.{put_next}
+use Rattle.records.proofs.Bytes.{put_next, put_part}
 use Rattle.records.specs.Kinds.{answer_long}
 
 -- calls that are left, of so many records, with i records answered before them; last is why serving stops if they are all calls
@@ -181,23 +182,65 @@ module _ (i k : ℕ) (last : Stop) (st : Store) (bytes answers : List ℕ) (b : 
           ∙ with_bad i k last st answers
           ∙ sym (λ j. stopped i (o j).store (o j).answers)
 
--- the same, of n records in all
-module _ (n i : ℕ) (h : i < n) (last : Stop) (st : Store) (bytes answers : List ℕ) (b : Board) (ws' answers' : List ℕ) where
+-- the same, of n records in all, where what is left of the calls and of the answers is lent, and the answers are put back behind those
+-- before them
+module _ (n i : ℕ) (h : i < n) (last : Stop) (st : Store) (bytes answers : List ℕ) (b : Board) (ws' part : List ℕ) where
+  abbrev at : ℕ
+  at = call_bytes * i
+
+  abbrev to : ℕ
+  to = answer_bytes * i
+
+  abbrev calls_left : List ℕ
+  calls_left = take (length bytes - at) (drop at bytes)
+
+  abbrev answers_left : List ℕ
+  answers_left = take (length answers - to) (drop to answers)
+
+  abbrev put_back : List ℕ
+  put_back = take to answers ++ (part ++ drop (length answers - to) (drop to answers))
+
   one_less : n - i ≡ suc (n - (i + 1))
   one_less = omega arith
 
-  pub turn_good : (after : Board) → answer_bytes * i + answer_bytes ≤ length answers
-      → one_answered b (Some after) ws' answers' ≡ answer_one st (call_at bytes (call_bytes * i)) answers (answer_bytes * i)
-      → rest (n - i) i last st bytes answers ≡ rest (n - (i + 1)) (i + 1) last (lent after ws') bytes answers'
+  same_call : call_at calls_left 0 ≡ call_at bytes at
+  unfolding call_at
+  same_call = ap (λ (l : List ℕ). call_in (take call_bytes l)) (take_rest bytes at)
+
+  put_there : (r : Option Board) (read : Option Call) → one_answered b r ws' part ≡ answer_one st read answers_left 0
+      → one_answered b r ws' put_back ≡ answer_one st read answers to
+  put_there (Some after) (Some call) o =
+      λ j. record {
+        store = (o j).store;
+        answers = put_part answers to (answer_record (reply_to (pair_of st call))) part (ap (λ (s : OneAnswered). s.answers) o) j;
+        good = true;
+      }
+  put_there None None o =
+      λ j. record {
+        store = (o j).store;
+        answers = put_part answers to (answer_record no_call) part (ap (λ (s : OneAnswered). s.answers) o) j;
+        good = false;
+      }
+  put_there (Some after) None o = absurd (true≢false (ap (λ (s : OneAnswered). s.good) o))
+  put_there None (Some call) o = absurd (false≢true (ap (λ (s : OneAnswered). s.good) o))
+
+  told : (r : Option Board) → one_answered b r ws' part ≡ answer_one st (call_at calls_left 0) answers_left 0
+      → one_answered b r ws' put_back ≡ answer_one st (call_at bytes at) answers to
+  told r e =
+      put_there r (call_at bytes at) (e ∙ ap (λ (read : Option Call). answer_one st read answers_left 0) same_call)
+
+  pub turn_good : (after : Board) → to + answer_bytes ≤ length answers
+      → one_answered b (Some after) ws' part ≡ answer_one st (call_at calls_left 0) answers_left 0
+      → rest (n - i) i last st bytes answers ≡ rest (n - (i + 1)) (i + 1) last (lent after ws') bytes put_back
   turn_good after room e =
       ap (λ (left : ℕ). rest left i last st bytes answers) one_less
-      ∙ rest_good i (n - (i + 1)) last st bytes answers b ws' answers' after room e
+      ∙ rest_good i (n - (i + 1)) last st bytes answers b ws' put_back after room (told (Some after) e)
 
-  pub turn_bad : one_answered b None ws' answers' ≡ answer_one st (call_at bytes (call_bytes * i)) answers (answer_bytes * i)
-      → rest (n - i) i last st bytes answers ≡ stopped i (lent b ws') answers'
+  pub turn_bad : one_answered b None ws' part ≡ answer_one st (call_at calls_left 0) answers_left 0
+      → rest (n - i) i last st bytes answers ≡ stopped i (lent b ws') put_back
   turn_bad e =
       ap (λ (left : ℕ). rest left i last st bytes answers) one_less
-      ∙ rest_bad i (n - (i + 1)) last st bytes answers b ws' answers' e
+      ∙ rest_bad i (n - (i + 1)) last st bytes answers b ws' put_back (told None e)
 
 pub rest_none : (i : ℕ) (last : Stop) (st : Store) (bytes answers : List ℕ)
     → rest 0 i last st bytes answers

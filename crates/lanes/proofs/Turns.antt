@@ -15,6 +15,7 @@ use borrow.Author.Tests.{eq-eqb, ne_eqb, leb-true, leb-false}
 use lib.Dec.{eqb, leb}
 use lib.ListN.{length, take, drop, length-take, length-drop, take-append-drop, drop_of_length-le}
 use lib.Seq.{take_all, take-add, take-append_seam, length-take-le, length-slice}
+use Rattle.std.specs.List.{copy_within}
 use Rattle.records.specs.Format.{call_bytes, answer_bytes, answer_record, put_at}
 use Rattle.records.proofs.Bytes.{put_front}
 use Rattle.records.specs.Kinds.{answer_long}
@@ -24,6 +25,7 @@ use Rattle.lanes.specs.declared.Desk.{Desk}
 use Rattle.lanes.specs.Serve.{no_call, tried, Serving, serving, into_bytes, serve_first, serve_of, serve_into}
 use Rattle.lanes.specs.Desk.{Input, serve_all, more_after, turn_on, at_end, turn_of, desk_in, TurnedIn, turned_in, turn_put, turn_into}
 use Rattle.lanes.proofs.Calls.{calls_in_at_most}
+use Rattle.lanes.proofs.Moves.{moved}
 use Rattle.lanes.proofs.Pieces.{roomy}
 
 -- THE BYTES THAT ARE THERE
@@ -101,18 +103,18 @@ module _ (st : Store) (bytes : List ℕ) (have : ℕ) (answers : List ℕ) (ther
   enough : serve_of st part (length answers) ≡ serve_all st part
   enough = roomy st part (length answers) (rw part_long room)
 
-  pub turn_is : (s : Served) (ws' bytes' answers' : List ℕ) (left : ℕ) (more : Bool)
+  pub turn_is : (s : Served) (ws' bytes' answers' : List ℕ) (more : Bool)
       → serving s ws' answers' ≡ serve_into st part answers
-      → left ≡ have - s.taken → bytes' ≡ put_at bytes 0 (drop s.taken part) → more ≡ more_after s.stop
-      → turned_in (record { desk = record { board = s.board; left = left }; written = s.written; more = more }) ws' bytes' answers'
+      → bytes' ≡ copy_within bytes s.taken have 0 → more ≡ more_after s.stop
+      → turned_in (record { desk = record { board = s.board; left = have - s.taken }; written = s.written; more = more }) ws' bytes' answers'
       ≡ turn_put bytes answers (turn_on st part)
   unfolding turn_on
-  turn_is s ws' bytes' answers' left more e n m g =
+  turn_is s ws' bytes' answers' more e m g =
       let o : serving s ws' answers' ≡ into_bytes answers (serve_all st part) = e ∙ ap (into_bytes answers) enough in
-      let lefts : left ≡ length (drop (serve_all st part).taken part) =
-      n ∙ sym (length-slice s.taken have bytes there) ∙ (λ i. length (drop (o i).taken part)) in
-      let moved : bytes' ≡ put_at bytes 0 (drop (serve_all st part).taken part) =
-      m ∙ (λ i. put_at bytes 0 (drop (o i).taken part)) in
+      let lefts : have - s.taken ≡ length (drop (serve_all st part).taken part) =
+      sym (length-slice s.taken have bytes there) ∙ (λ i. length (drop (o i).taken part)) in
+      let front : bytes' ≡ put_at bytes 0 (drop (serve_all st part).taken part) =
+      m ∙ moved bytes s.taken have (taken_there s ws' answers' e) there ∙ (λ i. put_at bytes 0 (drop (o i).taken part)) in
       let goes : more ≡ more_after (serve_all st part).stop = g ∙ (λ i. more_after (o i).stop) in
       λ i. record {
         turned = record {
@@ -121,7 +123,7 @@ module _ (st : Store) (bytes : List ℕ) (have : ℕ) (answers : List ℕ) (ther
           more = goes i;
         };
         words = (o i).store.words;
-        bytes = moved i;
+        bytes = front i;
         answers = (o i).answers;
       }
 

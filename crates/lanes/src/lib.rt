@@ -47,50 +47,43 @@ pub fn call(board: Board, cells: &mut [u32], call: Call) -> Answered
     }
 }
 
-// Answers the call record at an offset of the calls, from an offset of the answers. Hands back the record after it, or None for bytes
+// Answers the call record at the front of the calls, at the front of the answers. Hands back the record after it, or None for bytes
 // that are no call: the record is then as it was.
-#[tactic(auto, using(crate::proofs::Replies::call_place), unfolding(records::specs::Format::call_at))]
-fn answer_at(
-    board: Board,
-    cells: &mut [u32],
-    calls: &[u8],
-    at: usize,
-    answers: &mut [u8],
-    to: usize,
-) -> Option<Board>
-    requires { to + answer_bytes ≤ length answers.old }
+#[tactic(auto, unfolding(records::specs::Format::call_at))]
+fn answer_one(board: Board, cells: &mut [u32], calls: &[u8], answers: &mut [u8]) -> Option<Board>
+    requires { answer_bytes ≤ length answers.old }
     ensures { one_answered board result cells.new answers.new
-        ≡ answer_one (lent board cells.old) (call_at calls.now at) answers.old to }
+        ≡ answer_one (lent board cells.old) (call_at calls.now 0) answers.old 0 }
 {
-    let Some(c) = records::read::<Call>(calls, at) else {
-        no_call(answers, to);
+    let Some(c) = records::read::<Call>(calls, 0) else {
+        no_call(answers);
         return None;
     };
-    Some(reply_to(board, cells, c, answers, to))
+    Some(reply_to(board, cells, c, answers))
 }
 
 // Does a call that was read, and writes its answer, with the call's place byte.
-fn reply_to(board: Board, cells: &mut [u32], c: Call, answers: &mut [u8], to: usize) -> Board
-    requires { (goes_in 1 (place_of c) ≡ true) × (to + answer_bytes ≤ length answers.old) }
+fn reply_to(board: Board, cells: &mut [u32], c: Call, answers: &mut [u8]) -> Board
+    requires { (goes_in 1 (place_of c) ≡ true) × (answer_bytes ≤ length answers.old) }
     ensures { one_answered board (Some result) cells.new answers.new
-        ≡ answer_one (lent board cells.old) (Some c) answers.old to }
+        ≡ answer_one (lent board cells.old) (Some c) answers.old 0 }
 {
     let done = call(board, cells, c);
     let answer = done.answer;
     // A value goes into its four bytes, so the record is written; the proof rests on this line.
     prove!(records::value(answer) <= u32::MAX);
     let place = records::place_of(c);
-    let _ = records::write(answers, to, Reply { place, answer });
+    let _ = records::write(answers, 0, Reply { place, answer });
     done.board
 }
 
 // Writes RECORD with place 0 and value 0, which there is room for.
-fn no_call(answers: &mut [u8], to: usize)
-    requires { to + answer_bytes ≤ length answers.old }
-    ensures { answers.new ≡ put_at answers.old to (answer_record no_call) }
+fn no_call(answers: &mut [u8])
+    requires { answer_bytes ≤ length answers.old }
+    ensures { answers.new ≡ put_at answers.old 0 (answer_record no_call) }
 {
     let answer = Err(Refusal::Record);
-    let _ = records::write(answers, to, Reply { place: 0, answer });
+    let _ = records::write(answers, 0, Reply { place: 0, answer });
 }
 
 // Answers call records one after another: to the end of the whole records, to bytes that are no call (RECORD is written for them, and
@@ -104,7 +97,7 @@ pub fn serve(mut board: Board, cells: &mut [u32], calls: &[u8], answers: &mut [u
     // By offsets: once a `chunks_exact_mut` over `answers` is done, a proof knows nothing of what was written through it.
     for i in 0..records {
         let (at, to) = (CALL_BYTES * i, ANSWER_BYTES * i);
-        let Some(after) = answer_at(board, cells, calls, at, answers, to) else {
+        let Some(after) = answer_one(board, cells, &calls[at..], &mut answers[to..]) else {
             return Served {
                 board,
                 taken: at,
@@ -253,6 +246,6 @@ fn finish(left: usize, answers: &mut [u8]) -> usize
     if left == 0 {
         return 0;
     }
-    no_call(answers, 0);
+    no_call(answers);
     ANSWER_BYTES
 }

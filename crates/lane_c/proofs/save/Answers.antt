@@ -1,5 +1,5 @@
 -- `lane_c::save` meets its contract: a turn writes one place more, and after the last the counts stand behind. Assumes nothing.
-use mathlib.Core.Path.{refl, ◌∙◌}
+use mathlib.Core.Path.{refl}
 use mathlib.Core.List.{flat_map}
 use native.Mathlib.Omega.{arith}
 use Rattle.steps.proofs.Places.{long}
@@ -14,8 +14,7 @@ loop-i-init c = refl
 pub loop-i-preserved : goal.loop-i-preserved
 loop-i-preserved c =
     let l = c.loop-i in
-    save_turn l.words (omega arith) c.args.b (search long) l.i l.invariant _ _ (omega arith)
-    (c.copy_from_slice.ensures.after ∙ c.words_of.ensures)
+    save_turn l.words (omega arith) c.args.b (search long) l.i l.invariant c.words_of.result (omega arith) c.words_of.ensures
 
 pub returns : goal.returns
 returns c =

@@ -4,5 +4,5 @@ use Rattle.lanes.proofs.no_call.Goals as goal
 
 pub returns : goal.returns
 returns c =
-    no_call_put c.args.answers.now c.args.to c.write.result c.write.new.bytes c.requires
+    no_call_put c.args.answers.now c.write.result c.write.new.bytes c.requires
     c.write.ensures

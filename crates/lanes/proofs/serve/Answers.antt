@@ -26,7 +26,7 @@ returns-in_default c =
     let here : l.i < n = omega arith in
     sym (l.invariant
     ∙ turn_bad n l.i here (last_stop c.args.calls.now n) (lent l.board l.cells) c.args.calls.now l.answers
-    l.board c.answer_at.new.cells c.answer_at.new.answers c.in_default.ensures)
+    l.board c.answer_one.new.cells c.answer_one.new.answers c.in_default.ensures)
 
 pub loop-i-preserved : goal.loop-i-preserved
 loop-i-preserved c =
@@ -36,7 +36,7 @@ loop-i-preserved c =
     let room : answer_bytes * l.i + answer_bytes ≤ length l.answers = omega arith in
     l.invariant
     ∙ turn_good n l.i here (last_stop c.args.calls.now n) (lent l.board l.cells) c.args.calls.now l.answers
-    l.board c.answer_at.new.cells c.answer_at.new.answers c.in-Some.after room c.in-Some.ensures
+    l.board c.answer_one.new.cells c.answer_one.new.answers c.in-Some.after room c.in-Some.ensures
 
 pub returns : goal.returns
 returns c =

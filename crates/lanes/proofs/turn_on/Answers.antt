@@ -1,9 +1,8 @@
 -- `turn_on` meets its contract: what it calls comes to `turn_is` of `Turns`. Assumes nothing.
-use mathlib.Core.Path.{refl, sym, ◌∙◌}
+use mathlib.Core.Path.{sym}
 use native.Mathlib.Omega.{arith}
 use lib.Seq.{length-take-le}
 use Rattle.steps.specs.Store.{lent}
-use Rattle.lanes.proofs.Moves.{moved}
 use Rattle.lanes.proofs.Turns.{taken_there, turn_is}
 use Rattle.lanes.proofs.turn_on.Goals as goal
 
@@ -24,9 +23,6 @@ overflow_sub-result c =
 
 pub returns : goal.returns
 returns c =
-    let st = lent c.args.board c.args.cells.now in
-    let s = c.serve-s.result in
-    let t = taken_there st c.args.bytes.now c.args.have c.args.answers.now c.requires.0 c.requires.1 s c.serve-s.new.cells c.serve-s.new.answers c.serve-s.ensures in
-    turn_is st c.args.bytes.now c.args.have c.args.answers.now c.requires.0 c.requires.1
-    s c.serve-s.new.cells c.copy_within.new.self c.serve-s.new.answers _ c.more_after.result
-    c.serve-s.ensures refl (c.copy_within.ensures.after ∙ moved c.args.bytes.now s.taken c.args.have t c.requires.0) c.more_after.ensures
+    turn_is (lent c.args.board c.args.cells.now) c.args.bytes.now c.args.have c.args.answers.now c.requires.0 c.requires.1
+    c.serve-s.result c.serve-s.new.cells c.copy_within.new.self c.serve-s.new.answers c.more_after.result
+    c.serve-s.ensures c.copy_within.ensures.after c.more_after.ensures
