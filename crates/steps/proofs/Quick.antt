@@ -1,29 +1,31 @@
 -- The quick search for a cell to reuse: what the oldest open view tells of all the others.
---     none_keep      what the oldest view is past, no open view keeps
---     some_keeps     what the oldest view keeps, an open place keeps
+--     none_past      what the oldest view is past, no open view keeps
+--     one_keeps      what the oldest view keeps, an open place keeps
+--     none_keep, some_keeps     the same of any place whose view is the oldest
 --     none_back      without a foreign cell no prepared writer holds a key back
 --     held_if        so that it need be asked only where there is one
 -- Assumes nothing.
 use mathlib.Core.Path.{◌≡◌, refl, sym, ap, ◌∙◌}
-use mathlib.Core.Bool.{Bool, true, false, not, ◌&&◌, ◌||◌, true≢false}
+use mathlib.Core.Bool.{Bool, true, false, not, ◌&&◌, ◌||◌, true≢false, and-false, or-true}
 use mathlib.Core.List.{List, [], ◌∷◌}
-use Prim.Native.Nat.{ℕ, ◌≤◌}
+use Prim.Native.Nat.{ℕ, zero, suc, ◌≤◌, ◌<◌}
+use native.Mathlib.Nat.{le_of_suc-le-suc, not-suc-le-zero}
 use native.Mathlib.Omega.{arith}
 use borrow.Author.Tests.{ltb-false, leb-true, le-leb, le-ltb, ne_eqb, not-true, eqb-true, eqb-false, eq-eqb}
 use lib.Dec.{eqb, ltb, leb}
-use lib.ListN.{get_or}
+use lib.ListN.{length, get_or}
 use Rattle.cells.specs.declared.Cell.{Cell}
 use Rattle.cells.specs.Cells.{no_cell, of_key, foreign}
 use Rattle.cells.specs.Rules.{has_cell, newer, between, keeps, foreign_of, foreign_with, has_foreign}
 use Rattle.cells.proofs.Meaning.{has_found, some_has}
 use Rattle.steps.specs.declared.Place.{Place}
-use Rattle.steps.specs.Record.{is_open, is_prepared}
+use Rattle.steps.specs.Record.{all_places, idle_place, is_open, is_prepared}
 use Rattle.std.specs.Prelude.{cond, min, map, Option, Some, None}
 use Rattle.std.specs.Option.{unwrap_or}
 use Rattle.std.specs.List.{filter, fold, reduce, list_any}
 use Rattle.std.proofs.lemmas.List.Folds.{Any-from_list_any, list_any-from_Any}
 use Rattle.steps.proofs.Spent.{has_is_any}
-use Rattle.steps.specs.Search.{open_views, oldest_view}
+use Rattle.steps.specs.Search.{open_views, oldest_view, OldestAt}
 use Rattle.steps.proofs.Tests.{and_left, and_right, and_both, or_neither}
 use Rattle.steps.specs.Spent.{has_place, keeps_at, holds_back, held_back}
 
@@ -121,15 +123,15 @@ module _ (ps : List Place) (cs : List Cell) (c : Cell) where
         by_view true e = and_both (and_left (is_open p.state) (keeps cs c p.view) k) e
         by_view false e = absurd (true≢false (sym (seen (ltb-false p.view view e)) ∙ none))
 
-    pub none_keep : oldest_view ps ≡ o → has_place (keeps_at cs c) ps ≡ false
-    none_keep e = sym (has_is_any (keeps_at cs c) ps) ∙ by_kept (list_any (keeps_at cs c) ps) refl
+    pub none_past : oldest_view ps ≡ o → has_place (keeps_at cs c) ps ≡ false
+    none_past e = sym (has_is_any (keeps_at cs c) ps) ∙ by_kept (list_any (keeps_at cs c) ps) refl
       where
         by_kept : (b : Bool) → list_any (keeps_at cs c) ps ≡ b → b ≡ false
         by_kept false f = refl
         by_kept true f = absurd (true≢false (sym (any_more (keeps_at cs c) below kept_below ps f) ∙ none_below ps o e))
 
-  pub some_keeps : (view : ℕ) → oldest_view ps ≡ Some view → keeps cs c view ≡ true → has_place (keeps_at cs c) ps ≡ true
-  some_keeps view e k =
+  pub one_keeps : (view : ℕ) → oldest_view ps ≡ Some view → keeps cs c view ≡ true → has_place (keeps_at cs c) ps ≡ true
+  one_keeps view e k =
       sym (has_is_any (keeps_at cs c) ps)
       ∙ any_more (λ p. is_open p.state && eqb p.view view) (keeps_at cs c) here ps (one_at ps view e)
     where
@@ -137,6 +139,37 @@ module _ (ps : List Place) (cs : List Cell) (c : Cell) where
       here p f =
           let same = eqb-true p.view view (and_right (is_open p.state) (eqb p.view view) f) in
           and_both (and_left (is_open p.state) (eqb p.view view) f) (ap (keeps cs c) same ∙ k)
+
+-- WHAT A PLACE WITH THE OLDEST VIEW TELLS
+
+no_place : (q : Place → Bool) (ps : List Place) → ((k : ℕ) → k < length ps → q (get_or ps k idle_place) ≡ false)
+    → has_place q ps ≡ false
+unfolding has_place
+no_place q [] h = refl
+no_place q (p ∷ ps) h = λ i. h 0 (omega arith) i || no_place q ps (λ k l. h (suc k) (omega arith)) i
+
+a_place : (q : Place → Bool) (ps : List Place) (k : ℕ) → k < length ps → q (get_or ps k idle_place) ≡ true → has_place q ps ≡ true
+unfolding has_place
+a_place q [] k l e = absurd (not-suc-le-zero l)
+a_place q (p ∷ ps) zero l e = ap (λ (b : Bool). b || has_place q ps) e
+a_place q (p ∷ ps) (suc k) l e = ap (λ (b : Bool). q p || b) (a_place q ps k (le_of_suc-le-suc l) e) ∙ or-true (q p)
+
+module _ (ps : List Place) (r : ℕ) (oldest : OldestAt ps r) (long : length ps ≡ all_places) (cs : List Cell) (c : Cell) where
+  past_view : has_cell (between c (get_or ps r idle_place).view) cs ≡ true → (k : ℕ) → k < length ps
+      → (b : Bool) → is_open (get_or ps k idle_place).state ≡ b → (b && keeps cs c (get_or ps k idle_place).view) ≡ false
+  past_view e k l false o = refl
+  past_view e k l true o =
+      let W = (get_or ps k idle_place).view in
+      let seen = cell_more (between c (get_or ps r idle_place).view) (between c W)
+      (between_later c (get_or ps r idle_place).view W (oldest.least k (omega arith) o)) cs e in
+      ap (λ (b : Bool). leb c.commit W && not b) seen ∙ and-false (leb c.commit W)
+
+  pub none_keep : has_cell (between c (get_or ps r idle_place).view) cs ≡ true → has_place (keeps_at cs c) ps ≡ false
+  none_keep e = no_place (keeps_at cs c) ps (λ k l. past_view e k l (is_open (get_or ps k idle_place).state) refl)
+
+  pub some_keeps : is_open (get_or ps r idle_place).state ≡ true → keeps cs c (get_or ps r idle_place).view ≡ true
+      → has_place (keeps_at cs c) ps ≡ true
+  some_keeps o e = a_place (keeps_at cs c) ps r (omega (arith, oldest.inside)) (λ i. o i && e i)
 
 -- A PREPARED WRITER
 
