@@ -2,7 +2,7 @@
 
 #![tactic(auto)]
 
-ghost use Rattle.std.specs.Prelude.{◌≡◌, ◌+◌, ◌*◌, ◌-◌, ◌/◌, ◌≤◌, true, cond, ◌&&◌, leb, length, take, drop};
+ghost use Rattle.std.specs.Prelude.{◌≡◌, ◌*◌, ◌/◌, ◌≤◌, cond, ◌&&◌, leb, length, take};
 ghost use Rattle.records.specs.Format.{answer_bytes, call_bytes, put_at};
 ghost use Rattle.steps.specs.Store.{lent};
 ghost use Rattle.steps.specs.Step.{outcome, step};
