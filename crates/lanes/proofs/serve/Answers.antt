@@ -46,11 +46,12 @@ loop-i-preserved c =
     let small : value_of r.answer < 256 ^ 4 = omega arith in
     let place : goes_in 1 (place_of c.in-Some.c) ≡ true =
     call_place c.args.calls.now (call_bytes * l.i) c.in-Some.c (sym c.in-Some.ensures) in
+    let w = c.write-in-loop-i in
     l.invariant
-    ∙ turn_good n l.i here (last_stop c.args.calls.now n) st c.args.calls.now l.answers c.write-in-loop-i.new.bytes
+    ∙ turn_good n l.i here (last_stop c.args.calls.now n) st c.args.calls.now l.answers w.new.bytes
     c.in-Some.c r c.call-done.new.cells (sym c.in-Some.ensures) room c.call-done.ensures
-    (replied l.answers (answer_bytes * l.i) room st c.in-Some.c r c.call-done.new.cells c.place_of-place.result c.write-in-loop-i.result c.write-in-loop-i.new.bytes
-    place c.call-done.ensures c.place_of-place.ensures small c.write-in-loop-i.ensures)
+    (replied l.answers (answer_bytes * l.i) room st c.in-Some.c r c.call-done.new.cells c.place_of-place.result w.result w.new.bytes
+    place c.call-done.ensures c.place_of-place.ensures small w.ensures)
 
 pub returns : goal.returns
 returns c =
