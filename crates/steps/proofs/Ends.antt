@@ -18,6 +18,13 @@ use Rattle.steps.specs.Spent.{held_back}
 use Rattle.steps.specs.Store.{Store, Outcome, lent, cells_in, answered}
 use Rattle.steps.specs.Step.{outcome, number_at, view_at, shown_at, written, updated_as}
 
+-- what a look finds for the transaction at a place, and whether its key is held back there
+abbrev pub looked_at : Board → ℕ → List Cell → ℕ → Looked
+looked_at b key cs p = look_of key (number_at b p) (view_at b p) cs
+
+abbrev pub held_at : Board → ℕ → List Cell → ℕ → Bool
+held_at b key cs p = held_back key (number_at b p) b.places cs
+
 -- the own cell that a look found, or that there is none
 pub looked_own : (key number view : ℕ) (cs : List Cell) {l : Looked} {f : Option ℕ} → l ≡ look_of key number view cs → l.own ≡ f
     → own_at key number cs ≡ f

@@ -7,9 +7,6 @@ use Rattle.steps.proofs.Checks.{passed, refused, handed}
 use Rattle.steps.proofs.Board.read.Goals as goal
 use Rattle.records.specs.Answers.{Answer}
 
-pub shown-shown-requires : goal.shown-shown-requires
-shown-shown-requires c = (passed (lent c.args.self c.args.cells.now) (Call.Read c.args.place c.args.key) c.admit.ensures c.in-Ok.is).below
-
 pub returns-in-Err : goal.returns-in-Err
 returns-in-Err c =
     let a = c.args in

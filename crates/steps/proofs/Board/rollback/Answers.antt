@@ -7,9 +7,6 @@ use Rattle.steps.specs.Store.{Store, lent, answered}
 use Rattle.steps.proofs.Checks.{passed, refused, handed}
 use Rattle.steps.proofs.Board.rollback.Goals as goal
 
-pub closed-requires : goal.closed-requires
-closed-requires c = (passed (lent c.args.self c.args.cells.now) (Call.Rollback c.args.place) c.admit.ensures c.in-Ok.is).below
-
 pub returns-in-Err : goal.returns-in-Err
 returns-in-Err c =
     let a = c.args in

@@ -12,9 +12,6 @@ use Rattle.steps.proofs.Board.start.Goals as goal
 pub overflow_add-next : goal.overflow_add-next
 overflow_add-next c = omega (arith, (passed (lent c.args.self c.args.cells.now) (Call.Start c.args.place) c.admit.ensures c.in-Ok.is).starts)
 
-pub bounds-self-at : goal.bounds-self-at
-bounds-self-at c = (passed (lent c.args.self c.args.cells.now) (Call.Start c.args.place) c.admit.ensures c.in-Ok.is).below
-
 pub returns-in-Err : goal.returns-in-Err
 returns-in-Err c =
     let a = c.args in
@@ -26,6 +23,7 @@ returns-in-Ok c =
     let a = c.args in
     let go = passed (lent a.self a.cells.now) (Call.Start a.place) c.admit.ensures c.in-Ok.is in
     let n = a.self.starts + 1 in
+    let at = c.seat.view_is in
     let place = c.opened.ensures in
     go.is (handed c.with-in-Ok.ensures
-    (λ j. answered (Ok n) (lent (with_counts (with_place a.self c.in-Ok.at (place j)) n a.self.commits) a.cells.now)))
+    (λ j. answered (Ok n) (lent (with_counts (with_place a.self (at j) (place j)) n a.self.commits) a.cells.now)))

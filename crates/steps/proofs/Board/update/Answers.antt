@@ -9,7 +9,7 @@ pub updated-requires : goal.updated-requires
 updated-requires c =
     let a = c.args in
     let go = passed (lent a.self a.cells.now) (Call.Update a.place a.key a.value) c.admit.ensures c.in-Ok.is in
-    (go.below, go.keyed)
+    go.keyed
 
 pub returns-in-Err : goal.returns-in-Err
 returns-in-Err c =
