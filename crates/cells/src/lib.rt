@@ -358,7 +358,8 @@ pub fn look(cells: &[u32], key: u32, number: u32, view: u32) -> Looked
 // How many first words have a place in a table of newest numbers: 0 and those of 256 keys
 pub const TOPS: usize = 257;
 
-// For each first word below TOPS the greatest commit number of its cells, of all of them and of those that a view sees
+// For each first word below TOPS the greatest commit number of its cells, of all of them and of those that a view sees: two tables, since
+// each question asks one of them and its contract names that one
 #[derive(Clone, Copy, Debug, PartialEq, Eq)]
 pub struct Tops {
     pub all: [u32; TOPS],

@@ -98,7 +98,8 @@ fn last_stop(whole: usize, records: usize) -> Stop
     }
 }
 
-// The desk between two turns: the record, and how many bytes at the front of its input are a cut record.
+// The desk between two turns: the record, and how many bytes at the front of its input are a cut record. The bytes themselves lie with
+// the caller, since the desk's memory is fixed and lent.
 #[derive(Clone, Copy, Debug, PartialEq, Eq)]
 pub struct Desk {
     pub board: Board,

@@ -240,7 +240,7 @@ pub fn place_of(c: Call) -> u32
     }
 }
 
-// The kind of a call in its record.
+// The kind of a call in its record, where it is a byte.
 fn kind_of(c: Call) -> u8
     ensures { result ≡ kind_of c }
 {
@@ -281,7 +281,8 @@ fn goes_in(place: u32, key: u32, value: u32) -> bool
     (place < 256) & (key < 65536)
 }
 
-// The call that a kind, a place, a key and a value name.
+// The call that a record's kind, place, key and value name. A byte that is no kind gives a call of another kind, which `find` refuses, so
+// no `TryFrom` with an error of its own is needed.
 fn call_of(kind: u8, place: u32, key: u32, value: u32) -> Call
     ensures { result ≡ call_of kind place key value }
 {
@@ -295,7 +296,7 @@ fn call_of(kind: u8, place: u32, key: u32, value: u32) -> Call
     }
 }
 
-// The answer that a number and a value name.
+// The answer that a record's number and value name. A byte past 12 gives RECORD, which `find` refuses in the same way.
 fn answer_of(number: u8, value: u32) -> Answer
     ensures { result ≡ answer_of number value }
 {

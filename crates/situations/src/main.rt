@@ -37,7 +37,7 @@ impl Side {
         }
     }
 
-    // The words that are lent.
+    // The words that are lent. The length is cut here, since a ghost field that bounds it does not go with lending the words on.
     fn lent(&mut self) -> &mut [u32] {
         let lent = self.length.min(Side::WORDS);
         &mut self.words[..lent]
