@@ -155,7 +155,8 @@ pub fn whole(words: usize, most: usize) -> bool
     (words % Cell::WORDS == 0) & (1..=most).contains(&(words / Cell::WORDS))
 }
 
-// The cell of a number; four zeros for a number that no cell has
+// The cell of a number; four zeros for a number that no cell has. Which word is which is written out here, in `put_cell` and in `Cells`, as
+// a cell is read, written and walked over
 pub fn cell_at(cells: &[u32], i: usize) -> Cell
     ensures { result ≡ get_or (cells_of cells.now) i no_cell }
 {
@@ -281,7 +282,8 @@ fn four_have<F: Fn(Cell) -> bool>(cells: &[u32], i: usize, test: &F) -> bool
 }
 
 // The first cell from `from` on that passes. Eight are looked at in one go, with no branch for each: by a branch for each cell a
-// search of 1,024 took from 1.2 to 1.9 times as long. The searches are no iterator, since `change_own` writes between two of them
+// search of 1,024 took from 1.2 to 1.9 times as long. The searches are no iterator, since `change_own` writes between two of them, and a
+// second form for the two callers that only read would be no plainer
 fn next<F: Fn(Cell) -> bool>(cells: &[u32], from: usize, test: F) -> Option<usize>
     requires { F.IsAlwaysCallable test }
     ensures inside { IfSome result (λ at. (from ≤ at) × (at < count_of (length cells.now))) }

@@ -97,7 +97,8 @@ fn step_on_words(words: &mut [u32], cells: &mut [u32], call: Call) -> u64
     answer_word(done.answer)
 }
 
-// The call that a kind names, a number of the C interface.
+// The call that a kind names, a number of the C interface: one that is no kind is refused at once, and key and value are passed over where
+// the kind has none, other than in a record.
 fn call_named(kind: u32, place: u32, key: u32, value: u32) -> Option<Call>
     ensures { result ≡ call_named kind place key value }
 {
@@ -119,30 +120,21 @@ fn answer_word(a: Answer) -> u64
     (u64::from(records::number(a)) << 32) | u64::from(records::value(a))
 }
 
-// The number of a reason to stop. `Stop` and u32 are both other crates' types, so `From` cannot be written here.
+// The number of a reason to stop.
 fn why_of(stop: Stop) -> u32
     ensures { result ≡ why_of stop }
 {
-    match stop {
-        Stop::End => 0,
-        Stop::Record => 1,
-        Stop::Room => 2,
-    }
+    stop as u32
 }
 
-// The word of a state. `State` and u32 are both other crates' types, so `From` cannot be written here, nor `TryFrom` for the way back.
+// The word of a state.
 fn state_word(state: State) -> u32
     ensures { result ≡ state_word state }
 {
-    match state {
-        State::Idle => 0,
-        State::Open => 1,
-        State::Spoiled => 2,
-        State::Prepared => 3,
-    }
+    state as u32
 }
 
-// The state of a word.
+// The state of a word. `State` and u32 are both other crates' types, so `TryFrom` cannot be written here.
 fn state_of(word: u32) -> State
     ensures { result ≡ state_of word }
 {
@@ -201,7 +193,7 @@ fn load(words: &[u32]) -> Board
     }
 }
 
-// The record put into its words.
+// The record put into its words, by index: the library says nothing of what is written through `as_chunks_mut`.
 fn save(words: &mut [u32], b: Board)
     requires { length words.old ≡ record_words }
     ensures { words.new ≡ words_of_record b }

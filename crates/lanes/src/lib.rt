@@ -18,9 +18,9 @@ pub mod stream;
 // Why serving stopped: fewer bytes than a call record are left, bytes that are no call, or no room for one more answer.
 #[derive(Clone, Copy, Debug, PartialEq, Eq)]
 pub enum Stop {
-    End,
-    Record,
-    Room,
+    End = 0,
+    Record = 1,
+    Room = 2,
 }
 
 // How far serving got: the new record, how many bytes of calls were taken and of answers written, and why it stopped.
@@ -172,7 +172,7 @@ impl Desk {
 }
 
 impl Turned {
-    // Whether the desk goes on: there is more to do, and what it had to send was sent.
+    // For a loop of a caller's own: whether the desk goes on, as there is more to do, and what it had to send was sent.
     pub fn goes_on(self, sent: bool) -> bool
         ensures { result ≡ (self.more && sent) }
     {
@@ -208,7 +208,7 @@ fn turn_on(
 fn more_after(stop: Stop) -> bool
     ensures { result ≡ more_after stop }
 {
-    matches!(stop, Stop::End)
+    stop == Stop::End
 }
 
 // The end of the input, with so many bytes left: writes RECORD for a cut record, and says how many bytes were written.

@@ -2,11 +2,11 @@
 
 #![tactic(auto)]
 
-ghost use Rattle.std.specs.Prelude.{ℕ, Bool, List, [], Option, Some, None, ◌&&◌, ◌≡◌, ◌+◌, ◌%◌, ◌≤◌, eqb, leb, length, take, drop};
+ghost use Rattle.std.specs.Prelude.{ℕ, Bool, List, [], Option, Some, None, ◌&&◌, ◌≡◌, take, drop};
 ghost use Rattle.records.specs.Answers.{number_of, name_of, value_of, place_of};
 ghost use Rattle.records.specs.Format.{call_bytes, call_fits, call_record, call_in, kind_of, key_of, new_value_of, call_of};
 ghost use Rattle.records.specs.Format.{answer_bytes, reply_fits, answer_record, answer_in, answer_of};
-ghost use Rattle.records.specs.Format.{goes_in, put_at, wrote, written};
+ghost use Rattle.records.specs.Format.{goes_in, wrote, written};
 ghost use Rattle.records.specs.Kinds.{call_in_none, answer_in_none};
 
 use std::error::Error;
@@ -96,18 +96,19 @@ pub trait Record: Copy {
     fn put(self, s: &mut [u8]) -> Answer
         ensures { wrote result s.new ≡ written (fits self) s.old 0 (bytes self) };
 
-    // No record stands in no bytes.
+    // No record stands in no bytes. A law's proof has to stand in specs/, so what else holds of both kinds is theorems of each (`Promises`).
     ghost found_none: { found [] ≡ None };
 }
 
-// Takes the record at an offset: OK with the value that it is of, or RECORD.
+// Takes the record at an offset: the value that it is of; none, which is RECORD, where no record stands.
 pub fn read<R: Record>(bytes: &[u8], at: usize) -> Option<R>
     ensures { result ≡ R.found (take R.size (drop at bytes.now)) }
 {
     R::find(bytes.get(at..)?)
 }
 
-// Writes a value's record from an offset: OK with 0, or RECORD with every byte as it was.
+// Writes a value's record from an offset: OK with 0, or RECORD with every byte as it was. An answer and no `Result<(), _>`, since document
+// 01 gives it a value too.
 pub fn write<R: Record>(bytes: &mut [u8], at: usize, value: R) -> Answer
     ensures { wrote result bytes.new ≡ written (R.fits value) bytes.old at (R.bytes value) }
 {

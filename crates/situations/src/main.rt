@@ -16,7 +16,8 @@ fn main(rt: HostRuntime) {
     let _ = Run::fresh().all(&rt);
 }
 
-// One of the two boards: its record, its words, and how many of these are lent. The words lie in it, since nothing here is on a heap.
+// One of the two boards: its record, its words, and how many of these are lent. The words lie in it, so that the program
+// stands on nothing of the system but printing.
 #[derive(Drop)]
 struct Side {
     board: Board,
