@@ -15,25 +15,25 @@ use Rattle.steps.proofs.Board.shown.Goals as goal
 pub returns-in-Some : goal.returns-in-Some
 returns-in-Some c =
     let a = c.args in
-    let found = looked_own a.key (number_at a.self a.at) (view_at a.self a.at) (cells_of a.cells.now) c.look-look.ensures c.in-Some.is in
-    read_own (lent a.self a.cells.now) a.at a.key found c.cell_at.ensures
+    let found = looked_own a.key (number_at a.self.now a.at) (view_at a.self.now a.at) (cells_of a.cells.now) c.look-look.ensures c.in-Some.is in
+    read_own (lent a.self.now a.cells.now) a.at a.key found c.cell_at.ensures
 
 pub returns-then-held_back : goal.returns-then-held_back
 returns-then-held_back c =
     let a = c.args in
-    let none = looked_own a.key (number_at a.self a.at) (view_at a.self a.at) (cells_of a.cells.now) c.look-look.ensures c.in_default.is in
-    read_held (lent a.self a.cells.now) a.at a.key none (sym c.held_back.ensures ∙ c.if-held_back.true)
+    let none = looked_own a.key (number_at a.self.now a.at) (view_at a.self.now a.at) (cells_of a.cells.now) c.look-look.ensures c.in_default.is in
+    read_held (lent a.self.now a.cells.now) a.at a.key none (sym c.held_back.ensures ∙ c.if-held_back.true)
 
 pub returns : goal.returns
 returns c =
     let a = c.args in
     let key = a.key in
-    let number = number_at a.self a.at in
+    let number = number_at a.self.now a.at in
     let cs = cells_of a.cells.now in
-    let none = looked_own key number (view_at a.self a.at) cs c.look-look.ensures c.in_default.is in
-    let free = elim c.else-look.branch as (λ w. held_back key number a.self.places cs ≡ false) [
+    let none = looked_own key number (view_at a.self.now a.at) cs c.look-look.ensures c.in_default.is in
+    let free = elim c.else-look.branch as (λ w. held_back key number a.self.now.places cs ≡ false) [
       | else-look-via-then-look+else-held_back w ↦ sym w.held_back.ensures ∙ w.if-held_back.false
       | else-look-via-else-look w ↦
-          none_back key number a.self.places cs (sym (ap (λ (l : Looked). l.foreign) c.look-look.ensures) ∙ w.if-look.false)
+          none_back key number a.self.now.places cs (sym (ap (λ (l : Looked). l.foreign) c.look-look.ensures) ∙ w.if-look.false)
     ] in
-    read_seen (lent a.self a.cells.now) a.at key none free (ap (λ (l : Looked). l.newest) c.look-look.ensures)
+    read_seen (lent a.self.now a.cells.now) a.at key none free (ap (λ (l : Looked). l.newest) c.look-look.ensures)
