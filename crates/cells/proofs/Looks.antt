@@ -3,9 +3,11 @@
 use mathlib.Core.Path.{◌≡◌, refl, sym, ap, ◌∙◌}
 use mathlib.Core.Bool.{Bool, true, false, ◌&&◌, ◌||◌, or-false, or_assoc}
 use mathlib.Core.List.{List, [], ◌∷◌}
-use Prim.Native.Nat.{ℕ, ◌+◌, ◌/◌, ◌≤◌, ◌<◌}
+use Prim.Native.Nat.{ℕ, ◌+◌, ◌*◌, ◌/◌, ◌≤◌, ◌<◌}
+use native.Mathlib.Omega.{arith}
+use borrow.Author.Tests.{ltb-true, ltb-false, ne_eqb}
 use lib.Dec.{ltb}
-use lib.ListN.{length, get_or, drop}
+use lib.ListN.{length, get_or, drop, get_or-eq_default}
 use Rattle.std.specs.Prelude.{Option, Some, None}
 use Rattle.cells.specs.declared.Cell.{Cell}
 use Rattle.cells.specs.declared.Looked.{Looked}
@@ -13,8 +15,9 @@ use Rattle.cells.specs.Cells.{no_cell, cells_of, of_key, own, foreign, seen_by}
 use Rattle.cells.specs.Rules.{lowest_from, mine, own_at, has_cell, has_foreign, clashes, blocks, conflict, newest, visible, newest_seen}
 use Rattle.cells.specs.Rules.{pick_found, pick_cell, look_of}
 use Rattle.cells.specs.Search.{NextAt, lowest_of, no_look, look_turn, pick_look, look_from}
+use Rattle.cells.proofs.Words.{length_cells, cell_read}
 use Rattle.cells.proofs.Scan.{cells_next, cells_end}
-use Rattle.cells.proofs.Skip.{skip}
+use Rattle.cells.proofs.Skip.{skip, none_next}
 
 -- THE PASS
 
@@ -145,3 +148,25 @@ module _ (key number view : ℕ) where
         conflict = conflict_from cs 0 no_look i;
         newest = newest_from cs 0 no_look i;
       }
+
+  -- no cell of words below 2 ^ 32 is of a key that has no word
+  none_of_last : (ws : List ℕ) → 4_294_967_296 ≤ key + 1 → ((k : ℕ) → get_or ws k 0 < 4_294_967_296) → (k : ℕ)
+      → of_key key (get_or (cells_of ws) k no_cell) ≡ false
+  none_of_last ws last h k = here (ltb k (length ws / 4)) refl
+    where
+      here : (t : Bool) → ltb k (length ws / 4) ≡ t → of_key key (get_or (cells_of ws) k no_cell) ≡ false
+      here true e =
+          sym (ap (of_key key) (cell_read ws k (ltb-true _ _ e)))
+          ∙ ne_eqb (get_or ws (4 * k) 0) (key + 1) (λ q. omega (arith, h (4 * k)))
+      here false e =
+          let past : length (cells_of ws) ≤ k = omega (arith, length_cells ws, ltb-false k (length ws / 4) e) in
+          ap (of_key key) (get_or-eq_default (cells_of ws) no_cell past) ∙ ne_eqb 0 (key + 1) (λ q. omega arith)
+
+  -- so nothing is seen of it
+  pub look_last : (ws : List ℕ) → 4_294_967_296 ≤ key + 1 → ((k : ℕ) → get_or ws k 0 < 4_294_967_296)
+      → no_look ≡ look_of key number view (cells_of ws)
+  look_last ws last h =
+      sym (look_skip key number view no_look (cells_of ws) 0 _
+      (none_next (of_key key) 0 (cells_of ws) (λ k l g. none_of_last ws last h k))
+      ∙ look_end key number view no_look ws _ (omega (arith, length_cells ws)))
+      ∙ look_is (cells_of ws)

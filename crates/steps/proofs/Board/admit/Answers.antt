@@ -7,4 +7,4 @@ use Rattle.steps.proofs.Board.admit.Goals as goal
 pub invariant_of-result : goal.invariant_of-result
 invariant_of-result c =
     let a = c.args in
-    placed (board_facts a.self a.words a.call) c.place_of.ensures c.check.ensures c.in_ok-check.was
+    placed (board_facts a.self.now a.words a.call) c.place_of.ensures c.check.ensures c.in_ok-check.was

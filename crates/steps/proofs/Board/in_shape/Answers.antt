@@ -10,7 +10,7 @@ use Rattle.steps.proofs.Board.in_shape.Goals as goal
 pub returns : goal.returns
 unfolding in_shape
 returns c =
-    let b = c.args.self in
+    let b = c.args.self.now in
     λ j.
     c.whole.ensures j
     && leb b.starts most_starts

@@ -15,30 +15,30 @@ use Rattle.steps.proofs.Board.shown.Goals as goal
 pub returns-in-Some : goal.returns-in-Some
 returns-in-Some c =
     let a = c.args in
-    let look = c.look-look.ensures ∙ ap (looked_at a.self a.key (cells_of a.cells.now)) c.seat.view_is in
-    let found = looked_own a.key (number_at a.self a.seat) (view_at a.self a.seat) (cells_of a.cells.now) look c.in-Some.is in
-    read_own (lent a.self a.cells.now) a.seat a.key found c.cell_at.ensures
+    let look = c.look-look.ensures ∙ ap (looked_at a.self.now a.key (cells_of a.cells.now)) c.seat.view_is in
+    let found = looked_own a.key (number_at a.self.now a.seat) (view_at a.self.now a.seat) (cells_of a.cells.now) look c.in-Some.is in
+    read_own (lent a.self.now a.cells.now) a.seat a.key found c.cell_at.ensures
 
 pub returns-then-held_back : goal.returns-then-held_back
 returns-then-held_back c =
     let a = c.args in
-    let look = c.look-look.ensures ∙ ap (looked_at a.self a.key (cells_of a.cells.now)) c.seat.view_is in
-    let held = c.held_back.ensures ∙ ap (held_at a.self a.key (cells_of a.cells.now)) c.seat.view_is in
-    let none = looked_own a.key (number_at a.self a.seat) (view_at a.self a.seat) (cells_of a.cells.now) look c.in_default.is in
-    read_held (lent a.self a.cells.now) a.seat a.key none (sym held ∙ c.if-held_back.true)
+    let look = c.look-look.ensures ∙ ap (looked_at a.self.now a.key (cells_of a.cells.now)) c.seat.view_is in
+    let held = c.held_back.ensures ∙ ap (held_at a.self.now a.key (cells_of a.cells.now)) c.seat.view_is in
+    let none = looked_own a.key (number_at a.self.now a.seat) (view_at a.self.now a.seat) (cells_of a.cells.now) look c.in_default.is in
+    read_held (lent a.self.now a.cells.now) a.seat a.key none (sym held ∙ c.if-held_back.true)
 
 pub returns : goal.returns
 returns c =
     let a = c.args in
     let key = a.key in
-    let number = number_at a.self a.seat in
+    let number = number_at a.self.now a.seat in
     let cs = cells_of a.cells.now in
-    let look = c.look-look.ensures ∙ ap (looked_at a.self key cs) c.seat.view_is in
-    let none = looked_own key number (view_at a.self a.seat) cs look c.in_default.is in
-    let free = elim c.else-look.branch as (λ w. held_back key number a.self.places cs ≡ false) [
+    let look = c.look-look.ensures ∙ ap (looked_at a.self.now key cs) c.seat.view_is in
+    let none = looked_own key number (view_at a.self.now a.seat) cs look c.in_default.is in
+    let free = elim c.else-look.branch as (λ w. held_back key number a.self.now.places cs ≡ false) [
       | else-look-via-then-look+else-held_back w ↦
-          sym (w.held_back.ensures ∙ ap (held_at a.self key cs) c.seat.view_is) ∙ w.if-held_back.false
+          sym (w.held_back.ensures ∙ ap (held_at a.self.now key cs) c.seat.view_is) ∙ w.if-held_back.false
       | else-look-via-else-look w ↦
-          none_back key number a.self.places cs (sym (ap (λ (l : Looked). l.foreign) look) ∙ w.if-look.false)
+          none_back key number a.self.now.places cs (sym (ap (λ (l : Looked). l.foreign) look) ∙ w.if-look.false)
     ] in
-    read_seen (lent a.self a.cells.now) a.seat key none free (ap (λ (l : Looked). l.newest) look)
+    read_seen (lent a.self.now a.cells.now) a.seat key none free (ap (λ (l : Looked). l.newest) look)
