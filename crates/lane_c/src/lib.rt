@@ -83,7 +83,8 @@ pub extern "C" fn lane_serve(
     }
 }
 
-// A call on a record held as words: BOARD where they are none, otherwise its step.
+// A call on a record held as words: BOARD where they are none, otherwise its step. That the words are asked about here and in `lane_serve`,
+// and not in `load`: as an `Option`, `load` left a goal of `from_fn` open.
 #[tactic(auto, using(crate::proofs::Words::well_length))]
 fn step_on_words(words: &mut [u32], cells: &mut [u32], call: Call) -> u64
     ensures { crossed result words.new cells.new ≡ step_on_words words.old cells.old call }

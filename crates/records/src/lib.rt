@@ -92,7 +92,8 @@ pub trait Record: Copy {
     fn find(s: &[u8]) -> Option<Self>
         ensures { result ≡ found (take size s.now) };
 
-    // Puts the value's record at the front of the bytes: OK with 0, or RECORD with every byte as it was.
+    // Puts the value's record at the front of the bytes: OK with 0, or RECORD with every byte as it was. Each kind asks for its own room, since
+    // its record is an array of its own length.
     fn put(self, s: &mut [u8]) -> Answer
         ensures { wrote result s.new ≡ written (fits self) s.old 0 (bytes self) };
 
