@@ -59,7 +59,8 @@ module _ (st : Store) (L : Ledger) (s : in_shape st.board (length st.words) ≡ 
   shown p k =
       on_step (λ (o : Outcome). o.said.number ≡ 0 → o.said.value ≡ sees L p k) st (Call.Read p k)
       (λ a h e. absurd (h.refusal e))
-      (λ g. read_right st L 𝓛 p k (leb-false _ _ (g (Err Refusal.Place))) (open_of (place_at b p).state (g (Err Refusal.Idle)) (g (Err Refusal.Spoiled)) (g (Err Refusal.Held))))
+      (λ g. read_right st L 𝓛 p k (leb-false _ _ (g (Err Refusal.Place)))
+      (open_of (place_at b p).state (g (Err Refusal.Idle)) (g (Err Refusal.Spoiled)) (g (Err Refusal.Held))))
 
 -- ALONG A HISTORY
 

@@ -203,9 +203,12 @@ module _ (st : Store) (L : Ledger) (s : in_shape st.board (length st.words) ≡ 
 
   done_due : (c : Call) → Cleared (facts st c) → Due c (done st c)
   done_due (Call.Start p) g = inl (ap (λ (n : ℕ). said_of (Ok (n + 1))) 𝓛.begun)
-  done_due (Call.Read p k) g = read_due p k (leb-false _ _ (g (Err Refusal.Place))) (open_of (place_at b p).state (g (Err Refusal.Idle)) (g (Err Refusal.Spoiled)) (g (Err Refusal.Held)))
+  done_due (Call.Read p k) g =
+      read_due p k (leb-false _ _ (g (Err Refusal.Place)))
+      (open_of (place_at b p).state (g (Err Refusal.Idle)) (g (Err Refusal.Spoiled)) (g (Err Refusal.Held)))
   done_due (Call.Update p k v) g =
-      update_due p k v (leb-false _ _ (g (Err Refusal.Place))) (open_of (place_at b p).state (g (Err Refusal.Idle)) (g (Err Refusal.Spoiled)) (g (Err Refusal.Held))) (g (Err Refusal.Key))
+      update_due p k v (leb-false _ _ (g (Err Refusal.Place)))
+      (open_of (place_at b p).state (g (Err Refusal.Idle)) (g (Err Refusal.Spoiled)) (g (Err Refusal.Held))) (g (Err Refusal.Key))
   done_due (Call.Prepare p) g = inl refl
   done_due (Call.Commit p) g = inl (ap (λ (n : ℕ). said_of (Ok (n + 1))) 𝓛.counted)
   done_due (Call.Rollback p) g = inl refl

@@ -163,7 +163,8 @@ module _ (st : Store) (L : Ledger) (𝓛 : Linked st.board (cells_in st) L) wher
       start_links b cs L 𝓛 p (leb-false _ _ (g (Err Refusal.Place))) (idle_of _ (not-false _ (g (Err Refusal.Busy)))) (shape_of _ _ s).apart
   done_links (Call.Read p k) g s = read_kept p k s
   done_links (Call.Update p k v) g s =
-      update_links p k v (leb-false _ _ (g (Err Refusal.Place))) (open_of (place_at b p).state (g (Err Refusal.Idle)) (g (Err Refusal.Spoiled)) (g (Err Refusal.Held))) s
+      update_links p k v (leb-false _ _ (g (Err Refusal.Place)))
+      (open_of (place_at b p).state (g (Err Refusal.Idle)) (g (Err Refusal.Spoiled)) (g (Err Refusal.Held))) s
   done_links (Call.Prepare p) g s =
       turn_links b cs L 𝓛 p State.Prepared (leb-false _ _ (g (Err Refusal.Place))) prepared≢idle prepared≢open (shape_of _ _ s).apart
   done_links (Call.Commit p) g s =
@@ -209,9 +210,11 @@ module _ (st : Store) (L : Ledger) (𝓛 : Linked st.board (cells_in st) L) wher
     unfolding accept
     done_fair (Call.Start p) g = fair_start L f p
     done_fair (Call.Read p k) g =
-        read_fair p k (leb-false _ _ (g (Err Refusal.Place))) (open_of (place_at b p).state (g (Err Refusal.Idle)) (g (Err Refusal.Spoiled)) (g (Err Refusal.Held)))
+        read_fair p k (leb-false _ _ (g (Err Refusal.Place)))
+        (open_of (place_at b p).state (g (Err Refusal.Idle)) (g (Err Refusal.Spoiled)) (g (Err Refusal.Held)))
     done_fair (Call.Update p k v) g =
-        update_fair p k v (leb-false _ _ (g (Err Refusal.Place))) (open_of (place_at b p).state (g (Err Refusal.Idle)) (g (Err Refusal.Spoiled)) (g (Err Refusal.Held)))
+        update_fair p k v (leb-false _ _ (g (Err Refusal.Place)))
+        (open_of (place_at b p).state (g (Err Refusal.Idle)) (g (Err Refusal.Spoiled)) (g (Err Refusal.Held)))
     done_fair (Call.Prepare p) g = fair_turn L f p State.Prepared (leb-false _ _ (g (Err Refusal.Place)))
     done_fair (Call.Commit p) g = fair_commit L f t p (leb-false _ _ (g (Err Refusal.Place)))
     done_fair (Call.Rollback p) g = fair_rollback L f p

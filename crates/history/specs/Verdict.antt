@@ -1,7 +1,8 @@
 -- Beyond demand 3: the answer that the history alone calls for, and when FULL is given. Together they say that a history and the
 -- number of cells decide every answer.
 -- Assumes nothing.
-use Rattle.std.specs.Prelude.{◌≡◌, ◌⊎◌, ◌↔◌, Bool, true, false, cond, not, ◌&&◌, ◌||◌, List, ◌∷◌, ◌++◌, ℕ, zero, suc, ◌+◌, ◌≤◌, ◌<◌, leb, eqb, length, take, Ok, Err}
+use Rattle.std.specs.Prelude.{◌≡◌, ◌⊎◌, ◌↔◌, Bool, true, false, cond, not, ◌&&◌, ◌||◌, List, ◌∷◌, ◌++◌, length, take, Ok, Err}
+use Rattle.std.specs.Prelude.{ℕ, zero, suc, ◌+◌, ◌≤◌, ◌<◌, leb, eqb}
 use Rattle.std.proofs.Math.Option.{Option, none, some}
 use Rattle.records.specs.declared.Call.{Call}
 use Rattle.records.specs.declared.Refusal.{Refusal}
