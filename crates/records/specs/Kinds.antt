@@ -1,4 +1,4 @@
--- What code that reads any kind of record relies on, shown of the two kinds that there are: no bytes are none's record. All that they
+-- What code that reads any kind of record relies on, shown of the two kinds that there are: in no bytes no record stands. All that they
 -- promise is in Promises.
 -- Assumes nothing.
 use Rattle.std.specs.Prelude.{◌≡◌, refl, [], None}
