@@ -2,9 +2,15 @@
 
 #![tactic(auto)]
 
-use lanes::stream;
+use lanes::{Desk, stream};
 
 fn main(rt: HostRuntime) {
     // A read or a write that fails ends the desk, and nothing is said of it.
-    let _ = stream::desk(&mut rt.stdin(), &mut rt.stdout());
+    let _ = stream::run(
+        &mut rt.stdin(),
+        &mut rt.stdout(),
+        &mut [0; Desk::WORDS],
+        &mut [0; Desk::INPUT],
+        &mut [0; Desk::OUTPUT],
+    );
 }

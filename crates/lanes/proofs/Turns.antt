@@ -83,7 +83,7 @@ end_cut left answers answers' n e =
 -- SERVING THEM
 
 -- no more is taken than is there
-taken_in : (st : Store) (bytes answers : List ℕ) → (serve_into st bytes answers).taken ≤ length bytes
+pub taken_in : (st : Store) (bytes answers : List ℕ) → (serve_into st bytes answers).taken ≤ length bytes
 unfolding serve_of serve_first
 taken_in st bytes answers = omega (arith, calls_in_at_most (tried bytes (length answers)) bytes)
 

@@ -1,7 +1,6 @@
 // The desk over a reader and a writer, turn after turn.
 
 ghost use Rattle.std.specs.Prelude.{◌≡◌, OnOk};
-ghost use Rattle.lanes.specs.Desk.{desk_words};
 ghost use Rattle.lanes.specs.Loop.{Ran, AllServed};
 
 use crate::Desk;
@@ -16,25 +15,26 @@ pub fn desk<R: Read, W: Write>(input: &mut R, output: &mut W) -> io::Result<()>
     run(
         input,
         output,
-        &mut Desk::words(),
+        &mut [0; Desk::WORDS],
         &mut [0; Desk::INPUT],
         &mut [0; Desk::OUTPUT],
     )
 }
 
-// Turn after turn: a read behind the bytes that are left, the answers to the whole records that there are then, and a write. It stops
-// at the end of the input or at bytes that are no call. No input outlasts the count of turns.
-fn run<R: Read, W: Write>(
+// The same in memory that the caller lends, whatever is in it. Turn after turn: a read behind the bytes that are left, the answers to the
+// whole records that there are then, and a write. It stops at the end of the input or at bytes that are no call. No input outlasts the
+// count of turns.
+pub fn run<R: Read, W: Write>(
     input: &mut R,
     output: &mut W,
     cells: &mut [u32; Desk::WORDS],
     bytes: &mut [u8; Desk::INPUT],
     answers: &mut [u8; Desk::OUTPUT],
 ) -> io::Result<()>
-    requires { cells.old ≡ desk_words }
     ensures ran { Ran bytes.old answers.old cells.new bytes.new answers.new }
     ensures served { OnOk result (AllServed (R.remaining input.old) (W.contents output.old) (W.contents output.new)) }
 {
+    *cells = Desk::words();
     let mut desk = Desk::fresh();
     for _turn in 0..u64::MAX {
         let read = input.read(&mut bytes[desk.left..]);

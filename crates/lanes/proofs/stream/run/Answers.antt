@@ -21,7 +21,7 @@ ran_here : (g : given.Over) (c : After-turn-t g)
 ran_here g c = ran c.turn-t.result (leads c.loop-turn.invariant (read_came g c) _ c.turn-t.ensures)
 
 pub loop-turn-init : goal.loop-turn-init
-loop-turn-init g c = led_none _ _ _ _ _ _ c.fresh-desk.ensures c.requires
+loop-turn-init g c = led_none _ _ _ _ _ _ c.fresh-desk.ensures c.words.ensures
 
 pub shared_ref_as_front-write_all : goal.shared_ref_as_front-write_all
 shared_ref_as_front-write_all g c =
