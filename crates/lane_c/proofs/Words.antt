@@ -19,7 +19,7 @@ use native.Mathlib.Nat.{zero-add, suc-add}
 use native.Mathlib.Omega.{arith}
 use lib.Dec.{eqb, leb}
 use lib.ListN.{length, get_or, set, take, drop, replicate, length-append, length-map, take-append-drop, get_or-map}
-use lib.Seq.{get_or-append-add, get_or-drop, get_or-take, take_all, sets, sets-eq}
+use lib.Seq.{get_or-append-add, get_or-drop, get_or-take, take_all, sets}
 use borrow.Author.Tests.{leb-true, eqb-true, eq-eqb, ne_eqb}
 use Rattle.std.specs.List.{list_all}
 use Rattle.std.specs.Simd.{first_chunks}
@@ -177,29 +177,11 @@ module _ (b : Board) (full : length b.places ≡ all_places) where
 module _ (l : List ℕ) (long : length l ≡ record_words) (b : Board) (full : length b.places ≡ all_places) (i : ℕ)
     (so : take (state_word_at i) l ≡ words_of_places (take i b.places))
   where
-    abbrev at : ℕ
-    at = state_word_at i
-
-    abbrev stored : List ℕ → List ℕ
-    stored ws = set (set (set l at (get_or ws 0 0)) (at + 1) (get_or ws 1 0)) (at + 2) (get_or ws 2 0)
-
-    stored_place : (p : Place) → i < all_places → stored (words_of_place p) ≡ take at l ++ (words_of_place p ++ drop (at + place_words) l)
-    stored_place p h =
-        let second : at + 1 ≡ suc at = omega arith in
-        let third : at + 2 ≡ suc (suc at) = omega arith in
-        (λ j. set (set (set l at (state_word p.state)) (second j) p.number) (third j) p.view)
-        ∙ sets-eq (words_of_place p) l at (omega arith)
-        ∙ append_assoc (take at l) (words_of_place p) (drop (at + place_words) l)
-
-    pub save_turn : (ws : List ℕ) → i < all_places → ws ≡ words_of_place (place_at b i)
-        → take (state_word_at (i + 1)) (stored ws) ≡ words_of_places (take (i + 1) b.places)
+    pub save_turn : (ws rest : List ℕ) → i < all_places → ws ≡ words_of_place (place_at b i)
+        → take (state_word_at (i + 1)) (take (state_word_at i) l ++ (ws ++ rest)) ≡ words_of_places (take (i + 1) b.places)
     unfolding words_of_places
-    save_turn ws h e =
-        let p : Place = place_at b i in
-        ap (λ (r : List ℕ). take (state_word_at (i + 1)) (stored r)) e
-        ∙ ap (take (state_word_at (i + 1))) (stored_place p h)
-        ∙ written_turn place_words words_of_place wide l (words_of_place p) (drop (at + place_words) l) b.places i idle_place
-        (omega arith) (omega arith) so refl
+    save_turn ws rest h e =
+        written_turn place_words words_of_place wide l ws rest b.places i idle_place (omega arith) (omega arith) so e
 
     pub save_end : i ≡ all_places → sets l starts_at (words_of_counts b) ≡ words_of_record b
     unfolding words_of_record

@@ -6,7 +6,7 @@ ghost use Rattle.std.specs.Prelude.{◌≡◌, length};
 ghost use Rattle.records.specs.Answers.{number_of, value_of};
 ghost use Rattle.lane_c.specs.Call.{call_named, upper, lower, crossed, step_on_words, lane_call};
 ghost use Rattle.lane_c.specs.Serve.{why_of, handed, lane_serve};
-ghost use Rattle.lane_c.specs.Words.{record_words, state_word, state_of, words_of_place, place_of_words, place_fits};
+ghost use Rattle.lane_c.specs.Words.{place_words, record_words, state_word, state_of, words_of_place, place_of_words, place_fits};
 ghost use Rattle.lane_c.specs.Words.{record_of, words_of_record, well_formed};
 
 use lanes::Stop;
@@ -166,6 +166,14 @@ fn words_of(p: Place) -> [u32; PLACE_WORDS]
     [state_word(p.state), p.number, p.view]
 }
 
+// A place put into its words, one by one: copied as an array of three they took up to twice as long.
+fn put_place(block: &mut [u32], p: Place)
+    requires { length block.old ≡ place_words }
+    ensures { block.new ≡ words_of_place p }
+{
+    [block[0], block[1], block[2]] = words_of(p);
+}
+
 // Whether words are a place: no state word above 3.
 fn place_fits(block: &[u32; PLACE_WORDS]) -> bool
     ensures { result ≡ place_fits block.now }
@@ -194,14 +202,14 @@ fn load(words: &[u32]) -> Board
     }
 }
 
-// The record put into its words, by index: the library says nothing of what is written through `as_chunks_mut`.
+// The record put into its words, a place at a time: the library says nothing of what is written through `as_chunks_mut`.
 fn save(words: &mut [u32], b: Board)
     requires { length words.old ≡ record_words }
     ensures { words.new ≡ words_of_record b }
 {
     for (i, p) in b.places.iter().enumerate() {
         let at = PLACE_WORDS * i;
-        [words[at], words[at + 1], words[at + 2]] = words_of(*p);
+        put_place(&mut words[at..at + PLACE_WORDS], *p);
     }
     words[STARTS] = b.starts;
     words[COMMITS] = b.commits;

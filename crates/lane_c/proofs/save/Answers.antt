@@ -14,7 +14,7 @@ loop-i-init c = refl
 pub loop-i-preserved : goal.loop-i-preserved
 loop-i-preserved c =
     let l = c.loop-i in
-    save_turn l.words (omega arith) c.args.b (search long) l.i l.invariant c.words_of.result (omega arith) c.words_of.ensures
+    save_turn l.words (omega arith) c.args.b (search long) l.i l.invariant _ _ (omega arith) c.put_place.ensures
 
 pub returns : goal.returns
 returns c =
