@@ -1,7 +1,9 @@
 -- The quick search for a cell to reuse: what the oldest open view tells of all the others.
---     none_keep, some_keeps     what an oldest view is past, no open view keeps; what that of an open place keeps is kept
---     oldest_at      the least view of the open places is that of a place that is open, and an oldest one
---     none_past, one_keeps     so the two hold of the least view too
+--     none_past      what the oldest view is past, no open view keeps
+--     one_keeps      what the oldest view keeps, an open place keeps
+--     none_keep, some_keeps     the same of any place whose view is the oldest
+--     oldest_at      the least view of the open places is that of a place that is open, and of an oldest one
+--     past_least, kept_least     so the two tell what the search makes of the least view
 --     none_back      without a foreign cell no prepared writer holds a key back
 --     held_if        so that it need be asked only where there is one
 -- Assumes nothing.
@@ -11,7 +13,7 @@ use mathlib.Core.List.{List, [], ◌∷◌}
 use Prim.Native.Nat.{ℕ, zero, suc, ◌≤◌, ◌<◌}
 use native.Mathlib.Nat.{le_of_suc-le-suc, not-suc-le-zero}
 use native.Mathlib.Omega.{arith}
-use borrow.Author.Tests.{ltb-false, leb-true, le-leb, le-ltb, ne_eqb, eqb-true, eqb-false, eq-eqb}
+use borrow.Author.Tests.{ltb-false, leb-true, le-leb, le-ltb, ne_eqb, not-true, eqb-true, eqb-false, eq-eqb}
 use lib.Dec.{eqb, ltb, leb}
 use lib.ListN.{length, get_or}
 use Rattle.cells.specs.declared.Cell.{Cell}
@@ -26,57 +28,8 @@ use Rattle.std.specs.List.{filter, fold, reduce, list_any}
 use Rattle.std.proofs.lemmas.List.Folds.{Any-from_list_any, list_any-from_Any}
 use Rattle.steps.proofs.Spent.{has_is_any}
 use Rattle.steps.specs.Search.{open_views, oldest_view, OldestAt}
-use Rattle.steps.proofs.Tests.{and_left, and_right, or_neither}
+use Rattle.steps.proofs.Tests.{and_left, and_right, and_both, or_neither}
 use Rattle.steps.specs.Spent.{has_place, keeps_at, holds_back, held_back}
-
--- TESTS OF CELLS
-
--- what passes one test passes another
-any_more : {X : Type 0} (p q : X → Bool) → ((x : X) → p x ≡ true → q x ≡ true) → (xs : List X) → list_any p xs ≡ true
-    → list_any q xs ≡ true
-any_more p q f xs e = let a = Any-from_list_any p xs e in list_any-from_Any q xs (a.0, a.1, a.2, a.3, f a.1 a.4)
-
-cell_more : (p q : Cell → Bool) → ((d : Cell) → p d ≡ true → q d ≡ true) → (cs : List Cell) → has_cell p cs ≡ true → has_cell q cs ≡ true
-cell_more p q f cs e = let a = has_found p cs e in some_has q cs a.at a.inside (f (get_or cs a.at no_cell) a.passes)
-
--- a later view sees it too
-between_later : (c : Cell) (m W : ℕ) → m ≤ W → (d : Cell) → between c m d ≡ true → between c W d ≡ true
-between_later c m W h d = by_newer (newer c d)
-  where
-    by_newer : (a : Bool) → (a && leb d.commit m) ≡ true → (a && leb d.commit W) ≡ true
-    by_newer false e = e
-    by_newer true e = le-leb d.commit W (omega (arith, leb-true d.commit m e))
-
--- WHAT A PLACE WITH AN OLDEST VIEW TELLS
-
-no_place : (q : Place → Bool) (ps : List Place) → ((k : ℕ) → k < length ps → q (get_or ps k idle_place) ≡ false)
-    → has_place q ps ≡ false
-unfolding has_place
-no_place q [] h = refl
-no_place q (p ∷ ps) h = λ i. h 0 (omega arith) i || no_place q ps (λ k l. h (suc k) (omega arith)) i
-
-a_place : (q : Place → Bool) (ps : List Place) (k : ℕ) → k < length ps → q (get_or ps k idle_place) ≡ true → has_place q ps ≡ true
-unfolding has_place
-a_place q [] k l e = absurd (not-suc-le-zero l)
-a_place q (p ∷ ps) zero l e = ap (λ (b : Bool). b || has_place q ps) e
-a_place q (p ∷ ps) (suc k) l e = ap (λ (b : Bool). q p || b) (a_place q ps k (le_of_suc-le-suc l) e) ∙ or-true (q p)
-
-module _ (ps : List Place) (r : ℕ) (oldest : OldestAt ps r) (long : length ps ≡ all_places) (cs : List Cell) (c : Cell) where
-  past_view : has_cell (between c (get_or ps r idle_place).view) cs ≡ true → (k : ℕ) → k < length ps
-      → (b : Bool) → is_open (get_or ps k idle_place).state ≡ b → (b && keeps cs c (get_or ps k idle_place).view) ≡ false
-  past_view e k l false o = refl
-  past_view e k l true o =
-      let W = (get_or ps k idle_place).view in
-      let seen = cell_more (between c (get_or ps r idle_place).view) (between c W)
-      (between_later c (get_or ps r idle_place).view W (oldest.least k (omega arith) o)) cs e in
-      ap (λ (b : Bool). leb c.commit W && not b) seen ∙ and-false (leb c.commit W)
-
-  pub none_keep : has_cell (between c (get_or ps r idle_place).view) cs ≡ true → has_place (keeps_at cs c) ps ≡ false
-  none_keep e = no_place (keeps_at cs c) ps (λ k l. past_view e k l (is_open (get_or ps k idle_place).state) refl)
-
-  pub some_keeps : is_open (get_or ps r idle_place).state ≡ true → keeps cs c (get_or ps r idle_place).view ≡ true
-      → has_place (keeps_at cs c) ps ≡ true
-  some_keeps o e = a_place (keeps_at cs c) ps r (omega (arith, oldest.inside)) (λ i. o i && e i)
 
 -- THE LEAST OF A LIST
 
@@ -130,7 +83,97 @@ one_at ps m e = open_any (λ x. eqb x m) ps ∙ by_views (open_views ps) e
     by_views [] e = absurd (let z : ◌≡◌ {A = Option ℕ} None (Some m) = e in cc)
     by_views (x ∷ xs) e = fold_found x xs m (cc)
 
--- WHERE IT IS, AND WHAT IT TELLS
+-- WHAT ITS VIEW TELLS
+
+-- what passes one test passes another
+any_more : {X : Type 0} (p q : X → Bool) → ((x : X) → p x ≡ true → q x ≡ true) → (xs : List X) → list_any p xs ≡ true
+    → list_any q xs ≡ true
+any_more p q f xs e = let a = Any-from_list_any p xs e in list_any-from_Any q xs (a.0, a.1, a.2, a.3, f a.1 a.4)
+
+cell_more : (p q : Cell → Bool) → ((d : Cell) → p d ≡ true → q d ≡ true) → (cs : List Cell) → has_cell p cs ≡ true → has_cell q cs ≡ true
+cell_more p q f cs e = let a = has_found p cs e in some_has q cs a.at a.inside (f (get_or cs a.at no_cell) a.passes)
+
+-- a later view sees it too
+between_later : (c : Cell) (m W : ℕ) → m ≤ W → (d : Cell) → between c m d ≡ true → between c W d ≡ true
+between_later c m W h d = by_newer (newer c d)
+  where
+    by_newer : (a : Bool) → (a && leb d.commit m) ≡ true → (a && leb d.commit W) ≡ true
+    by_newer false e = e
+    by_newer true e = le-leb d.commit W (omega (arith, leb-true d.commit m e))
+
+module _ (ps : List Place) (cs : List Cell) (c : Cell) where
+  module _ (o : Option ℕ) (past : has_cell (between c (unwrap_or o 0)) cs ≡ true) where
+    abbrev view : ℕ
+    view = unwrap_or o 0
+
+    abbrev below : Place → Bool
+    below p = is_open p.state && ltb p.view view
+
+    kept_below : (p : Place) → keeps_at cs c p ≡ true → below p ≡ true
+    kept_below p k = by_view (ltb p.view view) refl
+      where
+        seen : view ≤ p.view → has_cell (between c p.view) cs ≡ true
+        seen l = cell_more (between c view) (between c p.view) (between_later c view p.view l) cs past
+
+        kept : keeps cs c p.view ≡ true
+        kept = and_right (is_open p.state) (keeps cs c p.view) k
+
+        none : has_cell (between c p.view) cs ≡ false
+        none = not-true _ (and_right (leb c.commit p.view) (not (has_cell (between c p.view) cs)) kept)
+
+        by_view : (b : Bool) → ltb p.view view ≡ b → below p ≡ true
+        by_view true e = and_both (and_left (is_open p.state) (keeps cs c p.view) k) e
+        by_view false e = absurd (true≢false (sym (seen (ltb-false p.view view e)) ∙ none))
+
+    pub none_past : oldest_view ps ≡ o → has_place (keeps_at cs c) ps ≡ false
+    none_past e = sym (has_is_any (keeps_at cs c) ps) ∙ by_kept (list_any (keeps_at cs c) ps) refl
+      where
+        by_kept : (b : Bool) → list_any (keeps_at cs c) ps ≡ b → b ≡ false
+        by_kept false f = refl
+        by_kept true f = absurd (true≢false (sym (any_more (keeps_at cs c) below kept_below ps f) ∙ none_below ps o e))
+
+  pub one_keeps : (view : ℕ) → oldest_view ps ≡ Some view → keeps cs c view ≡ true → has_place (keeps_at cs c) ps ≡ true
+  one_keeps view e k =
+      sym (has_is_any (keeps_at cs c) ps)
+      ∙ any_more (λ p. is_open p.state && eqb p.view view) (keeps_at cs c) here ps (one_at ps view e)
+    where
+      here : (p : Place) → (is_open p.state && eqb p.view view) ≡ true → keeps_at cs c p ≡ true
+      here p f =
+          let same = eqb-true p.view view (and_right (is_open p.state) (eqb p.view view) f) in
+          and_both (and_left (is_open p.state) (eqb p.view view) f) (ap (keeps cs c) same ∙ k)
+
+-- WHAT A PLACE WITH THE OLDEST VIEW TELLS
+
+no_place : (q : Place → Bool) (ps : List Place) → ((k : ℕ) → k < length ps → q (get_or ps k idle_place) ≡ false)
+    → has_place q ps ≡ false
+unfolding has_place
+no_place q [] h = refl
+no_place q (p ∷ ps) h = λ i. h 0 (omega arith) i || no_place q ps (λ k l. h (suc k) (omega arith)) i
+
+a_place : (q : Place → Bool) (ps : List Place) (k : ℕ) → k < length ps → q (get_or ps k idle_place) ≡ true → has_place q ps ≡ true
+unfolding has_place
+a_place q [] k l e = absurd (not-suc-le-zero l)
+a_place q (p ∷ ps) zero l e = ap (λ (b : Bool). b || has_place q ps) e
+a_place q (p ∷ ps) (suc k) l e = ap (λ (b : Bool). q p || b) (a_place q ps k (le_of_suc-le-suc l) e) ∙ or-true (q p)
+
+module _ (ps : List Place) (r : ℕ) (oldest : OldestAt ps r) (long : length ps ≡ all_places) (cs : List Cell) (c : Cell) where
+  past_view : has_cell (between c (get_or ps r idle_place).view) cs ≡ true → (k : ℕ) → k < length ps
+      → (b : Bool) → is_open (get_or ps k idle_place).state ≡ b → (b && keeps cs c (get_or ps k idle_place).view) ≡ false
+  past_view e k l false o = refl
+  past_view e k l true o =
+      let W = (get_or ps k idle_place).view in
+      let seen = cell_more (between c (get_or ps r idle_place).view) (between c W)
+      (between_later c (get_or ps r idle_place).view W (oldest.least k (omega arith) o)) cs e in
+      ap (λ (b : Bool). leb c.commit W && not b) seen ∙ and-false (leb c.commit W)
+
+  pub none_keep : has_cell (between c (get_or ps r idle_place).view) cs ≡ true → has_place (keeps_at cs c) ps ≡ false
+  none_keep e = no_place (keeps_at cs c) ps (λ k l. past_view e k l (is_open (get_or ps k idle_place).state) refl)
+
+  pub some_keeps : is_open (get_or ps r idle_place).state ≡ true → keeps cs c (get_or ps r idle_place).view ≡ true
+      → has_place (keeps_at cs c) ps ≡ true
+  some_keeps o e = a_place (keeps_at cs c) ps r (omega (arith, oldest.inside)) (λ i. o i && e i)
+
+-- WHICH PLACE IT IS
 
 -- the number of a place that passes, and that none does
 abbrev With : (Place → Bool) → List Place → Type 0
@@ -156,21 +199,6 @@ none_with q (p ∷ ps) e = turn (q p) refl e (none_with q ps)
     turn false f g later zero l = f
     turn false f g later (suc k) l = later g k (le_of_suc-le-suc l)
 
--- no place is open where there is no least view
-none_open : (ps : List Place) → oldest_view ps ≡ None → (k : ℕ) → k < length ps → is_open (get_or ps k idle_place).state ≡ false
-none_open ps e k l = only (is_open (get_or ps k idle_place).state) (none_with (λ p. is_open p.state && true) ps none k l)
-  where
-    no_views : (xs : List ℕ) → reduce min xs ≡ None → list_any (λ x. true) xs ≡ false
-    no_views [] e = refl
-    no_views (x ∷ xs) e = absurd (let z : ◌≡◌ {A = Option ℕ} (Some (fold min x xs)) None = e in cc)
-
-    none : list_any (λ p. is_open p.state && true) ps ≡ false
-    none = open_any (λ x. true) ps ∙ no_views (open_views ps) e
-
-    only : (b : Bool) → (b && true) ≡ false → b ≡ false
-    only true f = f
-    only false f = refl
-
 -- a place with the least view
 pub record Oldest (ps : List Place) (m : ℕ) : Type 0 where
   pub r : ℕ
@@ -193,7 +221,8 @@ oldest_at ps m long e =
       view = same;
     }
   where
-    not_below : (k : ℕ) → k < length ps → (b : Bool) → is_open (get_or ps k idle_place).state ≡ b → b ≡ true → m ≤ (get_or ps k idle_place).view
+    not_below : (k : ℕ) → k < length ps → (b : Bool) → is_open (get_or ps k idle_place).state ≡ b → b ≡ true
+        → m ≤ (get_or ps k idle_place).view
     not_below k l false o f = absurd (false≢true f)
     not_below k l true o f =
         let W = (get_or ps k idle_place).view in
@@ -201,16 +230,14 @@ oldest_at ps m long e =
         (ap (λ (b : Bool). b && ltb W m) (sym o) ∙ none_with (λ p. is_open p.state && ltb p.view m) ps (none_below ps (Some m) e) k l)
 
 module _ (ps : List Place) (long : length ps ≡ all_places) (cs : List Cell) (c : Cell) where
-  pub none_past : (o : Option ℕ) → has_cell (between c (unwrap_or o 0)) cs ≡ true → oldest_view ps ≡ o → has_place (keeps_at cs c) ps ≡ false
-  none_past None past e =
-      no_place (keeps_at cs c) ps
-      (λ k l. ap (λ (b : Bool). b && keeps cs c (get_or ps k idle_place).view) (none_open ps e k l))
-  none_past (Some m) past e =
+  pub past_least : (o : Option ℕ) → has_cell (between c (unwrap_or o 0)) cs ≡ true → oldest_view ps ≡ o → has_place (keeps_at cs c) ps ≡ false
+  past_least None past e = none_past ps cs c None past e
+  past_least (Some m) past e =
       let a = oldest_at ps m long e in
       none_keep ps a.r a.oldest long cs c (ap (λ (v : ℕ). has_cell (between c v) cs) a.view ∙ past)
 
-  pub one_keeps : (view : ℕ) → oldest_view ps ≡ Some view → keeps cs c view ≡ true → has_place (keeps_at cs c) ps ≡ true
-  one_keeps view e k =
+  pub kept_least : (view : ℕ) → oldest_view ps ≡ Some view → keeps cs c view ≡ true → has_place (keeps_at cs c) ps ≡ true
+  kept_least view e k =
       let a = oldest_at ps view long e in
       some_keeps ps a.r a.oldest long cs c a.opened (ap (keeps cs c) a.view ∙ k)
 

@@ -24,7 +24,7 @@ use Rattle.steps.specs.Record.{all_places}
 use Rattle.steps.specs.Spent.{has_place, keeps_at, free, reusable}
 use Rattle.steps.proofs.Spent.{place_turn, place_end, and_is, free_is}
 use Rattle.steps.proofs.Tests.{and_right}
-use Rattle.steps.proofs.Quick.{none_past, one_keeps}
+use Rattle.steps.proofs.Quick.{past_least, kept_least}
 use Rattle.steps.proofs.reusable.Goals as goal
 
 -- at a cell that is read: whether it is free settles the turn
@@ -99,7 +99,7 @@ returns-then-surpassed c =
     here a.cells.now a.places (search rules) c.cell_at-c.ensures c.cells.invariant
     (kept_or_free a.places cs x _ c.tops_of-tops.result c.tops_of-tops.ensures c.«empty».ensures c.if-empty.false
     c.committed.ensures c.if-not-committed.false c.outdated_by.ensures c.if-not-outdated_by.false
-    (none_past a.places (search rules) cs x o.result past_oldest (sym o.ensures)))
+    (past_least a.places (search rules) cs x o.result past_oldest (sym o.ensures)))
 
 pub cells-preserved-then-is_some_and : goal.cells-preserved-then-is_some_and
 cells-preserved-then-is_some_and c =
@@ -116,7 +116,7 @@ cells-preserved-then-is_some_and c =
     next a.cells.now a.places (search rules) c.cell_at-c.ensures c.cells.invariant
     (kept_or_free a.places cs x _ c.tops_of-tops.result c.tops_of-tops.ensures c.«empty».ensures c.if-empty.false
     c.committed.ensures c.if-not-committed.false c.outdated_by.ensures c.if-not-outdated_by.false
-    (one_keeps a.places (search rules) cs x view (sym o.ensures ∙ s.1.0) held))
+    (kept_least a.places (search rules) cs x view (sym o.ensures ∙ s.1.0) held))
 
 pub places-init : goal.places-init
 places-init c = refl
