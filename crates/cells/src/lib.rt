@@ -218,11 +218,17 @@ pub fn foreign_with(cells: &[u32], key: u32, number: u32, other: u32) -> bool
     Cells(cells).any(|c| c.foreign_of(key, number, other))
 }
 
-// Whether the cell's key has a committed cell with a number above the cell's
+// Whether the cell's key has a committed cell with a number above the cell's. By number: by `Cells` it took from 1.0 to 1.7 times as long, as
+// its code lay, and by `next`, which asks all of a test of eight cells, more than twice as long
 pub fn outdated(cells: &[u32], c: Cell) -> bool
     ensures { result ≡ has_cell (newer c) (cells_of cells.now) }
 {
-    Cells(cells).any(|d| c.newer(d))
+    for i in 0..count(cells) {
+        if c.newer(cell_at(cells, i)) {
+            return true;
+        }
+    }
+    false
 }
 
 // Whether a view keeps the cell: it is at least the cell's number, and sees no newer one
